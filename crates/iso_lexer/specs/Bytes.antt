@@ -1,4 +1,4 @@
--- To be believed. Classes of bytes, the fronts that they make, and rows of spellings.
+-- To be believed. Classes of bytes, the prefixes that they make, and rows of spellings.
 use Rattle.std.specs.Prelude.{ℕ, Bool, ◌||◌, ◌==◌, nat_le, List, drop, Option, option_map, find}
 use Rattle.std.specs.List.{prefix_len, slice_split}
 use Rattle.std.specs.Char.{is_ascii_digit, is_ascii_alphabetic}
@@ -14,7 +14,7 @@ is_name_start b = is_ascii_alphabetic b || b == 95 || nat_le 128 b
 abbrev pub is_name_byte : ℕ → Bool
 is_name_byte b = is_name_start b || is_ascii_digit b || b == 36
 
--- what follows the longest front whose bytes all pass
+-- what follows the longest prefix whose bytes all pass
 abbrev pub drop_while : (ℕ → Bool) → List ℕ → List ℕ
 drop_while p text = drop (prefix_len p text) text
 

@@ -1,4 +1,4 @@
--- To be believed. How a text splits into tokens, by rules for what stands at its front.
+-- To be believed. How a text splits into tokens, by rules for what it begins with.
 use Rattle.std.specs.Prelude.{◌≡◌, ℕ, ◌+◌, ◌-◌, ◌<◌, ◌≤◌, Bool, List, [], ◌∷◌, length, map, take_while, Result, Ok, Err, slice_range}
 use Rattle.std.specs.Result.{result_map_both}
 use Rattle.std.specs.Global.{Vec}
@@ -9,13 +9,13 @@ use Rattle.iso_lexer.specs.declared.fault.LexFault.TheVariants as errors
 use Rattle.iso_lexer.specs.declared.token.At.{At}
 use Rattle.iso_lexer.specs.Bytes.{drop_while}
 
--- What stands at the front of a text: nothing that counts, a token, or a fault so many bytes on.
+-- What a text begins with: nothing that counts, a token, or a fault so many bytes on.
 pub data Front (T : Type 0) : Type 0 where
   gap : List ℕ → Front T
   token : T → List ℕ → Front T
   fault : FaultKind → ℕ → Front T
 
--- the token made of the longest front whose bytes all pass
+-- the token made of the longest prefix whose bytes all pass
 abbrev pub of_run : {T : Type 0} → (ℕ → Bool) → (List ℕ → T) → List ℕ → Front T
 of_run p make text = token (make (take_while p text)) (drop_while p text)
 

@@ -1,10 +1,13 @@
 -- To be believed. What an UPDATE makes of a row (PostgreSQL manual, UPDATE).
-use Rattle.std.specs.Prelude.{ℕ, List, ◌++◌, map, Some, option_to_list, Result}
+use Rattle.std.specs.Prelude.{ℕ, ◌==◌, Bool, true, false, List, ◌++◌, map, filter, zip, slice_get, unwrap_or, Some, option_to_list, Result, Ok, Err}
+use Rattle.std.specs.List.{list_all, list_any}
+use Rattle.std.specs.Ordering.{is_eq, is_some_and}
 use Rattle.sql_trees.specs.Trees.{Tree}
 use Rattle.sql_trees.specs.Statements.{ColumnTree, SetTree, UpdateTree}
 use Rattle.sql_values.specs.declared.value.Value.{Value}
+use Rattle.sql_values.specs.declared.value.Value.TheVariants.{Null}
 use Rattle.sql_values.specs.declared.fault.ValueFault.{ValueFault}
-use Rattle.sql_values.specs.Values.{if_ok, each}
+use Rattle.sql_values.specs.Values.{assign, compare, if_ok, each}
 use Rattle.sql_values.specs.Expressions.{Cols, value}
 use Rattle.query_results.specs.Queries.{AssignedColumn, columns_assigned, filled}
 
@@ -19,3 +22,16 @@ columns_set columns sets = columns_assigned columns (Some (map (λ s. s.column) 
 -- the row as an UPDATE leaves it: all new values are evaluated on the old row, from the left, then all are taken as their columns do
 abbrev pub updated : Cols → List AssignedColumn → List SetTree → List Value → Result (List Value) ValueFault
 updated cols to sets row = if_ok (each (λ s. value s.value cols row) sets) (λ values. filled to values row)
+
+-- a column that has the one value still has it with the other: they are equal as `=` has it, or both NULL
+abbrev pub stays : Value → Value → Bool
+stays Null Null = true
+stays old new = is_some_and is_eq (compare old new)
+
+-- an assignment leaves its column as it is: it has a value on the row, which the column takes, and which is the row's own
+abbrev pub leaves : Cols → List Value → AssignedColumn × SetTree → Bool
+leaves cols row s = elim (if_ok (value s.1.value cols row) (λ v. assign v s.0.kind)) [ Ok new ↦ stays (unwrap_or (slice_get row s.0.place) Null) new | Err fault ↦ false ]
+
+-- an UPDATE leaves these columns of a row as they are, by what it assigns to them
+abbrev pub leaves_all : Cols → List AssignedColumn → List SetTree → List ℕ → List Value → Bool
+leaves_all cols to sets places row = list_all (leaves cols row) (filter (λ s. list_any (λ place. place == s.0.place) places) (zip to sets))

@@ -29,5 +29,6 @@ fault_text faults.TooManyValues = codes "INSERT has more expressions than target
 fault_text (faults.NoPosition n) = codes "ORDER BY position " ++ signed_decimal n ++ codes " is not in select list"
 fault_text faults.NotSerializable = codes "could not serialize access due to concurrent update"
 fault_text faults.Deadlock = codes "deadlock detected"
+fault_text (faults.NotFree name) = codes "could not obtain lock on row in relation " ++ in_quotes name
 fault_text faults.Aborted = codes "current transaction is aborted, commands ignored until end of transaction block"
 fault_text faults.LevelTooLate = codes "SET TRANSACTION ISOLATION LEVEL must be called before any query"

@@ -92,6 +92,13 @@ fn push_position_fault(page: &mut Page, position: &i128) -> Result<(), AllocErro
     page.push(b" is not in select list")
 }
 
+fn push_not_free(page: &mut Page, name: &Ident<'_>) -> Result<(), AllocError>
+    ensures { OnOk result (page_text page.new ≡ page_text page.old ++ (codes "could not obtain lock on row in relation " ++ in_quotes name.now)) }
+{
+    page.push(b"could not obtain lock on row in ")?;
+    push_relation(page, name)
+}
+
 /// Pushes the text of a fault.
 #[tactic(auto, unfolding(crate::specs::FaultText::fault_text))]
 pub fn push_fault(page: &mut Page, fault: &StmtFault<'_>) -> Result<(), AllocError>
@@ -127,6 +134,7 @@ pub fn push_fault(page: &mut Page, fault: &StmtFault<'_>) -> Result<(), AllocErr
             page.push(b"could not serialize access due to concurrent update")
         }
         StmtFault::Deadlock => page.push(b"deadlock detected"),
+        StmtFault::NotFree(name) => push_not_free(page, name),
         StmtFault::Aborted => page.push(
             b"current transaction is aborted, commands ignored until end of transaction block",
         ),

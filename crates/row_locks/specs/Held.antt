@@ -3,17 +3,31 @@ use Rattle.std.specs.Prelude.{◌≡◌, ◌==◌, Bool, true, false, not, ◌&&
 use Rattle.std.specs.List.{list_any}
 use Rattle.row_versions.specs.declared.names.TxId.{TxId}
 use Rattle.row_versions.specs.declared.names.RowId.{RowId}
-use Rattle.row_versions.specs.declared.write.Write.{Write}
-use Rattle.row_versions.specs.Log.{Content, is_open}
-use Rattle.row_locks.specs.declared.held.Strength.{Strength}
-use Rattle.row_locks.specs.declared.held.Strength.TheVariants.{Share, Exclusive}
+use denote.Enum.Bare.{sameb}
+use Rattle.sql_trees.specs.declared.stmt.Strength.{Strength}
+use Rattle.sql_trees.specs.declared.stmt.Strength.TheVariants.{KeyShare, Share, NoKeyUpdate, Update}
+use Rattle.sql_trees.specs.contracts.stmt.Strength.{the_type as the_strength}
 use Rattle.row_locks.specs.declared.held.Held.{Held}
 use Rattle.row_versions.specs.Members.{same_tx}
 
--- a shared lock agrees with a shared lock; all other pairs conflict (13.3.2, "Conflicting Row-Level Locks")
+-- a transaction can't be given a row that another holds (table 13.3, "Conflicting Row-Level Locks"): the first is held, the second is asked for
 abbrev pub conflicts : Strength → Strength → Bool
+conflicts KeyShare KeyShare = false
+conflicts KeyShare Share = false
+conflicts KeyShare NoKeyUpdate = false
+conflicts KeyShare Update = true
+conflicts Share KeyShare = false
 conflicts Share Share = false
-conflicts a b = true
+conflicts Share NoKeyUpdate = true
+conflicts Share Update = true
+conflicts NoKeyUpdate KeyShare = false
+conflicts NoKeyUpdate Share = true
+conflicts NoKeyUpdate NoKeyUpdate = true
+conflicts NoKeyUpdate Update = true
+conflicts Update KeyShare = true
+conflicts Update Share = true
+conflicts Update NoKeyUpdate = true
+conflicts Update Update = true
 
 -- the blockers of a row request: the others that hold the row in conflict; a transaction never conflicts with itself (13.3.2),
 -- and they are open, since locks are let go at a transaction's end
@@ -21,9 +35,7 @@ abbrev pub holders_against : List Held → RowId → TxId → Strength → List 
 holders_against held row tx strength = map (λ h. h.tx) (filter (λ h. (h.row.0 == row.0) && not (same_tx h.tx tx) && conflicts h.strength strength) held)
 
 abbrev pub same_strength : Strength → Strength → Bool
-same_strength Share Share = true
-same_strength Exclusive Exclusive = true
-same_strength a b = false
+same_strength = sameb the_strength
 
 -- the two are one lock
 abbrev pub same_lock : Held → Held → Bool
@@ -32,6 +44,9 @@ same_lock a b = ((a.row.0 == b.row.0) && same_tx a.tx b.tx) && same_strength a.s
 -- the lock is held
 abbrev pub holds : List Held → Held → Bool
 holds held h = list_any (λ other. same_lock other h) held
+
+-- A transaction's locks are those that settled targets took, and one at Update on each row that it inserted; an UPDATE or DELETE writes its row
+-- under the lock that its target took.
 
 -- what is held once a lock is taken, and once a transaction lets go of all that it held
 abbrev pub with_lock : List Held → Held → List Held
@@ -48,11 +63,3 @@ IsTaken old lock new = (h : Held) → holds new h ≡ (holds old h || same_lock 
 abbrev pub IsReleased : List Held → TxId → List Held → Type 0
 IsReleased old tx new = (h : Held) → holds new h ≡ (not (same_tx h.tx tx) && holds old h)
 
--- who writes a row holds it exclusively
-abbrev pub lock_of_write : Write → Held
-lock_of_write w = record { row = w.row; tx = w.tx; strength = Exclusive }
-
--- held locks: each that a settled target took, and an exclusive one on each row that an open transaction wrote;
--- all are let go at the transaction's end (13.3.2)
-abbrev pub held_locks : Content → List Held → List Held
-held_locks c taken = taken ++ map lock_of_write (filter (λ w. is_open c.fates w.tx) c.log)

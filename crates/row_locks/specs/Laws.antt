@@ -1,17 +1,17 @@
 -- What follows from the definitions. Each law stands on the contract of a function of `laws`.
-use Rattle.std.specs.Prelude.{◌≡◌, ◌≢◌, ◌↔◌, ◌⊎◌, Bool, true, List, IsTrue}
+use Rattle.std.specs.Prelude.{◌≡◌, ◌≢◌, ◌↔◌, ◌⊎◌, Bool, true, false, List, IsTrue}
 use Rattle.row_versions.specs.declared.names.TxId.{TxId}
 use Rattle.row_versions.specs.declared.names.RowId.{RowId}
-use Rattle.row_versions.specs.declared.write.Write.{Write}
-use Rattle.row_versions.specs.declared.write.Fate.{Fate}
-use Rattle.row_versions.specs.declared.write.Fate.TheVariants.{Open}
-use Rattle.row_versions.specs.Log.{Content, IsOpen, next_tx, after_begin, after_end, after_write}
-use Rattle.row_locks.specs.declared.held.Strength.{Strength}
+use Rattle.sql_trees.specs.declared.stmt.Strength.{Strength}
 use Rattle.row_locks.specs.declared.held.Held.{Held}
 use Rattle.row_versions.specs.Members.{has}
-use Rattle.row_locks.specs.Held.{conflicts, holders_against, holds, IsTaken, IsReleased, lock_of_write, held_locks}
+use Rattle.row_locks.specs.Held.{conflicts, holders_against, holds, IsTaken, IsReleased}
 use Rattle.row_locks.specs.Waiting.{Waiting}
 use Rattle.row_locks.specs.Cycles.{blocks, Closes, NoCycle, AllEnd, closes}
+
+-- strengths conflict whichever of the two is held (13.3.2)
+abbrev pub ConflictsGoBothWays : Type 0
+ConflictsGoBothWays = (a b : Strength) → conflicts a b ≡ conflicts b a
 
 -- the blockers of a row request are exactly the other transactions that hold the row at a strength in conflict (13.3.2)
 abbrev pub BlockersHoldInConflict : Type 0
@@ -38,26 +38,13 @@ DoingAddsOnlyTheDoer = (x : TxId) (old new : List Held) → SameButFor x old new
     → (row : RowId) (tx : TxId) (strength : Strength) (u : TxId) → u ≢ x
     → has (holders_against new row tx strength) u ≡ has (holders_against old row tx strength) u
 
--- a lock that a settled target took is held from then on, and nothing else changes
+-- a lock that was taken is held from then on, and what others hold stays as it is
 abbrev pub LocksAreHeld : Type 0
-LocksAreHeld = (c : Content) (taken after : List Held) (h : Held) → IsTaken taken h after
-    → IsTaken (held_locks c taken) h (held_locks c after) × SameButFor h.tx (held_locks c taken) (held_locks c after)
+LocksAreHeld = (held after : List Held) (h : Held) → IsTaken held h after → IsTrue (holds after h) × SameButFor h.tx held after
 
--- a write of an open transaction holds its row exclusively from then on, and nothing else changes
-abbrev pub WritesHoldTheirRow : Type 0
-WritesHoldTheirRow = (c : Content) (taken : List Held) (w : Write) → IsOpen c w.tx
-    → IsTaken (held_locks c taken) (lock_of_write w) (held_locks (after_write c w) taken)
-    × SameButFor w.tx (held_locks c taken) (held_locks (after_write c w) taken)
-
--- a transaction that ends lets go of all that it held, and nothing else changes
+-- a transaction that ends lets go of all that it held, and what others hold stays as it is
 abbrev pub EndsLetGo : Type 0
-EndsLetGo = (c : Content) (taken after : List Held) (x : TxId) (fate : Fate) → fate ≢ Open → IsReleased taken x after
-    → IsReleased (held_locks c taken) x (held_locks (after_end c x fate) after)
-    × SameButFor x (held_locks c taken) (held_locks (after_end c x fate) after)
-
--- a transaction that begins changes nothing of what the others hold
-abbrev pub BeginningsHoldNothing : Type 0
-BeginningsHoldNothing = (c : Content) (taken : List Held) → SameButFor (next_tx c) (held_locks c taken) (held_locks (after_begin c) taken)
+EndsLetGo = (held after : List Held) (x : TxId) → IsReleased held x after → ((h : Held) → h.tx ≡ x → holds after h ≡ false) × SameButFor x held after
 
 -- the test for a cycle passes exactly where some path closes one
 abbrev pub CycleTestIsExact : Type 0

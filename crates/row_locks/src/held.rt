@@ -4,13 +4,7 @@ ghost use Rattle.row_locks.specs.Held.{conflicts};
 ghost use Rattle.row_locks.specs.Inner.Searching.{is_against};
 
 use row_versions::{RowId, TxId};
-
-/// How strongly a row is held: FOR SHARE shares it; FOR UPDATE, UPDATE and DELETE want it alone.
-#[derive(Clone, Copy, PartialEq, Eq)]
-pub enum Strength {
-    Share,
-    Exclusive,
-}
+use sql_trees::Strength;
 
 /// A lock: the transaction holds the row.
 #[derive(Clone, Copy)]
@@ -20,15 +14,15 @@ pub struct Held {
     pub strength: Strength,
 }
 
-impl Strength {
-    /// Whether two transactions can't hold a row at these strengths at once.
-    pub fn conflicts(self, other: Strength) -> bool
-        ensures { result ≡ conflicts self other }
-    {
-        match (self, other) {
-            (Strength::Share, Strength::Share) => false,
-            _ => true,
-        }
+/// Whether one transaction can't be given a row so strongly while another holds it so (PostgreSQL manual, table 13.3).
+pub fn conflicts(held: Strength, requested: Strength) -> bool
+    ensures { result ≡ conflicts held requested }
+{
+    match held {
+        Strength::KeyShare => matches!(requested, Strength::Update),
+        Strength::Share => matches!(requested, Strength::NoKeyUpdate | Strength::Update),
+        Strength::NoKeyUpdate => !matches!(requested, Strength::KeyShare),
+        Strength::Update => true,
     }
 }
 
@@ -36,5 +30,5 @@ impl Strength {
 pub fn is_against(held: &Held, row: RowId, tx: TxId, strength: Strength) -> bool
     ensures { result ≡ is_against row tx strength held.now }
 {
-    held.row.0 == row.0 && held.tx.0 != tx.0 && held.strength.conflicts(strength)
+    held.row.0 == row.0 && held.tx.0 != tx.0 && conflicts(held.strength, strength)
 }

@@ -1,5 +1,10 @@
 //! Laws of locks and waits: each function's contract is one of them, and its body does nothing.
-ghost use Rattle.row_locks.specs.Laws.{BlockersHoldInConflict, BlockersByWhatIsHeld, DoingAddsOnlyTheDoer, LocksAreHeld, WritesHoldTheirRow, EndsLetGo, BeginningsHoldNothing, CycleTestIsExact, CyclesByWhoBlocks, NoCycleAppears, WaitsLeadToAnEnd};
+ghost use Rattle.row_locks.specs.Laws.{ConflictsGoBothWays, BlockersHoldInConflict, BlockersByWhatIsHeld, DoingAddsOnlyTheDoer, LocksAreHeld, EndsLetGo, CycleTestIsExact, CyclesByWhoBlocks, NoCycleAppears, WaitsLeadToAnEnd};
+
+/// Strengths conflict whichever of the two is held.
+pub fn conflicts_go_both_ways()
+    ensures { ConflictsGoBothWays }
+{}
 
 /// The blockers of a row request are exactly the other transactions that hold the row in conflict.
 pub fn blockers_hold_in_conflict()
@@ -16,24 +21,14 @@ pub fn doing_adds_only_the_doer()
     ensures { DoingAddsOnlyTheDoer }
 {}
 
-/// A lock that a settled target took is held, and nothing else changes.
+/// A lock that was taken is held, and what others hold stays as it is.
 pub fn locks_are_held()
     ensures { LocksAreHeld }
 {}
 
-/// A write holds its row exclusively, and nothing else changes.
-pub fn writes_hold_their_row()
-    ensures { WritesHoldTheirRow }
-{}
-
-/// A transaction that ends lets go of all that it held, and nothing else changes.
+/// A transaction that ends lets go of all that it held, and what others hold stays as it is.
 pub fn ends_let_go()
     ensures { EndsLetGo }
-{}
-
-/// A transaction that begins changes nothing of what the others hold.
-pub fn beginnings_hold_nothing()
-    ensures { BeginningsHoldNothing }
 {}
 
 /// The test for a cycle passes exactly where some path closes one.

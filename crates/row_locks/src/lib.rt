@@ -8,6 +8,7 @@ mod members;
 mod wait;
 mod waits;
 
-pub use held::{Held, Strength};
+pub use held::{Held, conflicts};
 pub use lock_table::LockTable;
+pub use sql_trees::Strength;
 pub use waits::Waits;

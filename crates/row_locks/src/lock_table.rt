@@ -6,10 +6,11 @@ ghost use Rattle.row_locks.specs.declared.held.Held.{Held};
 ghost use Rattle.row_locks.specs.Held.{holders_against, with_lock, released, IsTaken, IsReleased};
 ghost use Rattle.row_locks.specs.Inner.Searching.{is_against};
 
-use crate::held::{Held, Strength, is_against};
+use crate::held::{Held, is_against};
 use crate::members::has;
 use row_versions::{RowId, TxId};
 use smallvec::SmallVec;
+use sql_trees::Strength;
 use std::alloc::{AllocError, Global};
 use std::marker::Model;
 

@@ -8,7 +8,7 @@ ghost use Rattle.session_machine.specs.declared.event.Event.TheVariants.{Step};
 ghost use Rattle.session_machine.specs.declared.reply.HistItem.{HistItem};
 ghost use Rattle.session_machine.specs.Machine.{Machine, Next, Run, next, opening, turn_in};
 ghost use Rattle.session_machine.specs.Waits.{waits_in};
-ghost use Rattle.wait_laws.specs.Laws.{IsHeldAlone, IsNearerRest};
+ghost use Rattle.wait_laws.specs.Laws.{IsHeldToWrite, IsNearerRest};
 ghost use Rattle.wait_laws.specs.Replies.{IsAnsweredSo};
 
 use crate::engine::EngineState;
@@ -34,10 +34,10 @@ impl<'a, 't, V: Versions> EngineState<'a, 't, V> {
         let _told = self.history();
     }
 
-    /// A row that an open transaction wrote is held by it alone.
+    /// A row that an open transaction wrote is held by it so strongly that nobody else writes it.
     pub fn writes_are_held(&self)
         ensures { (m : Machine) → self.now.machine ≡ Some m → (place : ℕ) (w : Write) → slice_get m.db.content.log place ≡ Some w
-            → IsOpen m.db.content w.tx → IsHeldAlone m.db w }
+            → IsOpen m.db.content w.tx → IsHeldToWrite m.db place w }
     {
         laws::writes_are_held();
         let _told = self.history();

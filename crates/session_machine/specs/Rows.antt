@@ -1,33 +1,37 @@
 -- To be believed. What a statement does with rows: INSERT with those of its VALUES, and UPDATE, DELETE and a locking SELECT with their targets
 -- (PostgreSQL manual, 13.2.1 and 13.3.2, and the pages of the statements).
-use Rattle.std.specs.Prelude.{ℕ, not, List, ◌∷◌, ◌++◌, length, map, drop, Option, Some, None, option_map, unwrap_or, slice_get, filter_map, Result, Ok, Err, if◌then◌else◌, []}
+use Rattle.std.specs.Prelude.{ℕ, false, not, List, ◌∷◌, ◌++◌, length, map, flat_map, drop, Option, Some, None, option_map, option_and_then, unwrap_or, slice_get, filter_map, Result, Ok, Err, if◌then◌else◌, []}
 use Rattle.std.specs.Option.{option_map_or, option_or}
 use Rattle.std.specs.Result.{result_unwrap_or}
 use Rattle.sql_trees.specs.declared.stmt.Lock.{Lock}
-use Rattle.sql_trees.specs.declared.stmt.Lock.TheVariants as lock
+use Rattle.sql_trees.specs.declared.stmt.Strength.{Strength}
+use Rattle.sql_trees.specs.declared.stmt.Strength.TheVariants.{NoKeyUpdate, Update}
+use Rattle.sql_trees.specs.declared.stmt.Policy.{Policy}
+use Rattle.sql_trees.specs.declared.stmt.Policy.TheVariants.{Wait}
 use Rattle.sql_trees.specs.Trees.{Tree}
-use Rattle.sql_trees.specs.Statements.{ColumnTree, KeyTree, StmtTree, InsertTree, Inserts, Updates, Deletes, Selects, key_name}
+use Rattle.sql_trees.specs.Statements.{ColumnTree, KeyTree, StmtTree, InsertTree, UpdateTree, Inserts, Updates, Deletes, Selects, key_name}
 use Rattle.sql_values.specs.declared.value.Value.{Value}
 use Rattle.sql_values.specs.declared.fault.ValueFault.{ValueFault}
 use Rattle.sql_values.specs.Expressions.{Cols}
-use Rattle.query_results.specs.Queries.{cols_of, columns_assigned, new_values, null_in, row_values, passing, taken}
-use Rattle.query_results.specs.Updates.{columns_set, updated}
+use Rattle.query_results.specs.Queries.{AssignedColumn, cols_of, columns_assigned, new_values, null_in, row_values, passing, taken}
+use Rattle.query_results.specs.Updates.{columns_set, leaves_all, updated}
 use Rattle.row_versions.specs.declared.names.RowId.{RowId}
 use Rattle.row_versions.specs.declared.write.View.{View}
 use Rattle.row_versions.specs.declared.write.Seen.{Seen}
 use Rattle.row_versions.specs.Log.{values_at, new_row, after_write}
 use Rattle.row_versions.specs.Members.{is_none_of}
 use Rattle.row_versions.specs.Rows.{rows_of}
-use Rattle.row_locks.specs.declared.held.Strength.{Strength}
-use Rattle.row_locks.specs.declared.held.Strength.TheVariants.{Share, Exclusive}
+use Rattle.row_versions.specs.Newest.{newest_of}
+use Rattle.row_locks.specs.Held.{with_lock}
 use Rattle.row_locks.specs.Cycles.{closes}
 use Rattle.unique_keys.specs.Checks.{is_taken}
 use Rattle.update_recheck.specs.Asked.{Asked}
 use Rattle.update_recheck.specs.Outcome.{target_outcome, is_target_locked}
-use Rattle.update_recheck.specs.Outcome.Outcome.{Takes, Skips, Waits, Deadlocks, Serializes, Faults}
+use Rattle.update_recheck.specs.Outcome.Outcome.{Takes, Skips, Waits, Deadlocks, NotFree as IsNotFree, Serializes, Faults}
+use Rattle.update_recheck.specs.Settling.{lock_of}
 use Rattle.session_machine.specs.declared.session.OpenTransaction.{OpenTransaction}
 use Rattle.session_machine.specs.declared.session.Request.TheVariants.{Row, Key}
-use Rattle.session_machine.specs.declared.fault.StmtFault.TheVariants.{Value as OfValue, NullValue, KeyTaken, NotSerializable, Deadlock}
+use Rattle.session_machine.specs.declared.fault.StmtFault.TheVariants.{Value as OfValue, NullValue, KeyTaken, NotSerializable, Deadlock, NotFree}
 use Rattle.session_machine.specs.Tables.{Database, Table}
 use Rattle.session_machine.specs.Views.{rows_shown}
 use Rattle.session_machine.specs.AskedKeys.{AskedKey}
@@ -57,9 +61,9 @@ values_of db seen = unwrap_or (values_at db.content seen.place) []
 abbrev pub written : Database → Work → RowId → Option (List Value) → Database
 written db w row values = record db { content = after_write db.content (record { tx = w.t.tx; command = w.t.command; table = record { 0 = w.table }; row = row; values = values }) }
 
--- a new row is written, and its transaction holds it alone
+-- a new row is written, and its transaction holds it at Update
 abbrev pub inserted : Database → Work → List Value → Database
-inserted db w values = record (written db w (new_row db.content) (Some values)) { held = db.held ++ record { row = new_row db.content; tx = w.t.tx; strength = Exclusive } ∷ [] }
+inserted db w values = record (written db w (new_row db.content) (Some values)) { held = with_lock db.held (record { row = new_row db.content; tx = w.t.tx; strength = Update }) }
 
 -- a row with these values is about to be written, in place of a row or as a new one. Where others hold the key the statement waits for them, or fails where
 -- that wait would close a cycle; else it fails where another row of the table has the key
@@ -98,38 +102,77 @@ act_on w (Selects s) walk version = elim (row_values (cols_in walk.db w) s.items
 ]
 act_on w stmt walk version = passed walk walk.db []
 
--- a target, which the statement wants this strongly, is settled first, and locked where that takes it; then the statement acts on it, passes it over, or stops there
-abbrev pub visit_target : Work → StmtTree → Strength → Option Tree → Walk → Seen → Walk
-visit_target w stmt strength filter walk seen =
-    let ask : Asked = record { tx = w.t.tx; level = w.t.level; seen = seen; strength = strength; condition = filter; cols = cols_in walk.db w } in
+-- the table that a statement names whose rows it goes over, or to which it adds rows
+abbrev pub table_named : StmtTree → Option (List ℕ)
+table_named (Inserts i) = Some i.table
+table_named (Updates u) = Some u.table
+table_named (Deletes d) = Some d.table
+table_named (Selects s) = s.table
+table_named stmt = None
+
+-- its WHERE
+abbrev pub filter_of : StmtTree → Option Tree
+filter_of (Updates u) = u.filter
+filter_of (Deletes d) = d.filter
+filter_of (Selects s) = s.filter
+filter_of stmt = None
+
+-- the columns of its table's keys
+abbrev pub key_columns : Database → Work → List ℕ
+key_columns db w = flat_map (λ key. key.columns) (unwrap_or (option_map (λ (t : Table). t.made.keys) (slice_get db.catalog.tables w.table)) [])
+
+-- the values of a row's newest version for the transaction, if that isn't gone
+abbrev pub newest_values : Database → Work → RowId → Option (List Value)
+newest_values db w row = option_and_then (λ m. values_at db.content m.place) (newest_of db.content row w.t.tx)
+
+-- an UPDATE that leaves the values of all keys of the row's newest version as they are takes the row at NoKeyUpdate, another one at Update (13.3.2, "FOR NO KEY UPDATE")
+abbrev pub update_strength : Database → Work → List AssignedColumn → UpdateTree → RowId → Strength
+update_strength db w to u row = if option_map_or (leaves_all (cols_in db w) to u.sets (key_columns db w)) (newest_values db w row) false then NoKeyUpdate else Update
+
+-- how strongly a statement wants a row at present: a locking SELECT as it says, and DELETE at Update (13.3.2)
+abbrev pub strength_at : Database → Work → StmtTree → RowId → Strength
+strength_at db w (Updates u) row = update_strength db w (result_unwrap_or (columns_set (columns_in db w) u.sets) []) u row
+strength_at db w (Selects s) row = option_map_or (λ l. l.strength) s.lock Update
+strength_at db w stmt row = Update
+
+-- what it does at a row that others hold in conflict: a locking SELECT as it says, and the others wait
+abbrev pub policy_of : StmtTree → Policy
+policy_of (Selects s) = option_map_or (λ l. l.policy) s.lock Wait
+policy_of stmt = Wait
+
+-- a target, as the statement asks for it
+abbrev pub target_asked : Database → Work → StmtTree → Seen → Asked
+target_asked db w stmt seen =
+    record { tx = w.t.tx; level = w.t.level; seen = seen; strength = strength_at db w stmt seen.row; policy = policy_of stmt; condition = filter_of stmt; cols = cols_in db w }
+
+-- a target is settled first, and locked where that takes it; then the statement acts on it, passes it over, or stops there
+abbrev pub visit_target : Work → StmtTree → Walk → Seen → Walk
+visit_target w stmt walk seen =
+    let ask = target_asked walk.db w stmt seen in
     let held = walk.db.held in
     let waits = waits_in walk.db w.around.sessions in
-    let at = record walk { db = record walk.db { held = if is_target_locked walk.db.content held waits ask then held ++ record { row = seen.row; tx = w.t.tx; strength = strength } ∷ [] else held } } in
+    let at = record walk { db = record walk.db { held = if is_target_locked walk.db.content held waits ask then with_lock held (lock_of ask) else held } } in
     elim (target_outcome walk.db.content held waits ask) [
       | Takes version ↦ act_on w stmt at version
       | Skips ↦ passed at at.db []
-      | Waits ↦ stopped at (Blocked (Row seen.row strength))
+      | Waits ↦ stopped at (Blocked (Row seen.row ask.strength))
       | Deadlocks ↦ stopped at (Fails Deadlock)
+      | IsNotFree ↦ stopped at (Fails (NotFree (unwrap_or (table_named stmt) [])))
       | Serializes ↦ stopped at (Fails NotSerializable)
       | Faults fault ↦ stopped at (Fails (OfValue fault))
     ]
 
--- FOR SHARE shares the row; FOR UPDATE holds it alone
-abbrev pub strength_of : Lock → Strength
-strength_of l = elim l [ lock.Share ↦ Share | lock.Update ↦ Exclusive ]
-
 -- a statement goes over its targets, which are versions that its view shows, at these places; where they couldn't be found, it fails
-abbrev pub over_targets : Work → StmtTree → Strength → Option Tree → Walk → Result (List ℕ) ValueFault → Walk
-over_targets w stmt strength filter walk (Err fault) = stopped walk (Fails (OfValue fault))
-over_targets w stmt strength filter walk (Ok places) =
-    over (visit_target w stmt strength filter) walk (drop walk.place (filter_map (slice_get (rows_of walk.db.content w.view (record { 0 = w.table }))) places))
+abbrev pub over_targets : Work → StmtTree → Walk → Result (List ℕ) ValueFault → Walk
+over_targets w stmt walk (Err fault) = stopped walk (Fails (OfValue fault))
+over_targets w stmt walk (Ok places) = over (visit_target w stmt) walk (drop walk.place (filter_map (slice_get (rows_of walk.db.content w.view (record { 0 = w.table }))) places))
 
 -- the statement goes on from where it has come to: INSERT over the rows of its VALUES, UPDATE and DELETE over the versions that pass WHERE,
 -- and a locking SELECT over them as ORDER BY sorts them; the others have no targets
 abbrev pub walk_of : Work → StmtTree → Walk → Option Walk
 walk_of w (Inserts i) walk = Some (over (insert_row w i) walk (drop walk.place i.rows))
-walk_of w (Updates u) walk = Some (over_targets w (Updates u) Exclusive u.filter walk (passing (cols_in walk.db w) u.filter (rows_shown walk.db.content w.view w.table)))
-walk_of w (Deletes d) walk = Some (over_targets w (Deletes d) Exclusive d.filter walk (passing (cols_in walk.db w) d.filter (rows_shown walk.db.content w.view w.table)))
+walk_of w (Updates u) walk = Some (over_targets w (Updates u) walk (passing (cols_in walk.db w) u.filter (rows_shown walk.db.content w.view w.table)))
+walk_of w (Deletes d) walk = Some (over_targets w (Deletes d) walk (passing (cols_in walk.db w) d.filter (rows_shown walk.db.content w.view w.table)))
 walk_of w (Selects s) walk =
-    option_map (λ l. over_targets w (Selects s) (strength_of l) s.filter walk (taken s (columns_in walk.db w) (rows_shown walk.db.content w.view w.table))) s.lock
+    option_map (λ l. over_targets w (Selects s) walk (taken s (columns_in walk.db w) (rows_shown walk.db.content w.view w.table))) s.lock
 walk_of w stmt walk = None

@@ -44,6 +44,7 @@ impl<'a> StmtFault<'a> {
             StmtFault::NoPosition(position) => StmtFault::NoPosition(*position),
             StmtFault::NotSerializable => StmtFault::NotSerializable,
             StmtFault::Deadlock => StmtFault::Deadlock,
+            StmtFault::NotFree(table) => StmtFault::NotFree(table.again()),
             StmtFault::Aborted => StmtFault::Aborted,
             StmtFault::LevelTooLate => StmtFault::LevelTooLate,
         })

@@ -133,6 +133,8 @@ pub enum StmtFault<'a> {
     NotSerializable,
     /// The wait would close a cycle.
     Deadlock,
+    /// Others hold a row of the table, and nobody is waited for.
+    NotFree(Ident<'a>),
     /// The transaction failed before.
     Aborted,
     /// The level changes after the transaction's first query.

@@ -54,6 +54,7 @@ impl<'a> StmtFault<'a> {
             (StmtFault::NoPosition(x), StmtFault::NoPosition(y)) => x == y,
             (StmtFault::NotSerializable, StmtFault::NotSerializable) => true,
             (StmtFault::Deadlock, StmtFault::Deadlock) => true,
+            (StmtFault::NotFree(x), StmtFault::NotFree(y)) => x.same(y),
             (StmtFault::Aborted, StmtFault::Aborted) => true,
             (StmtFault::LevelTooLate, StmtFault::LevelTooLate) => true,
             _ => false,

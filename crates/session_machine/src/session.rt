@@ -3,9 +3,8 @@
 ghost use Rattle.std.specs.Prelude.{◌≡◌};
 ghost use Rattle.session_machine.specs.Machine.{at_rest};
 
-use row_locks::Strength;
 use row_versions::{RowId, TableId, TxId, View};
-use sql_trees::Level;
+use sql_trees::{Level, Strength};
 use sql_values::Row;
 use std::marker::Model;
 

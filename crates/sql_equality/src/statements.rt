@@ -8,13 +8,15 @@ ghost use Rattle.sql_trees.specs.declared.kind.Dir as dirs;
 ghost use Rattle.sql_trees.specs.declared.kind.Kind as types;
 ghost use Rattle.sql_trees.specs.declared.stmt.Level as levels;
 ghost use Rattle.sql_trees.specs.declared.stmt.Lock as locks;
+ghost use Rattle.sql_trees.specs.declared.stmt.Policy as policies;
+ghost use Rattle.sql_trees.specs.declared.stmt.Strength as strengths;
 
 use crate::alike::{Alike, all_alike};
 use crate::expressions::same_expr;
 use iso_lexer::{Name, same_name};
 use sql_trees::{
     Agg, AggKind, Column, CreateTable, Delete, Dir, DropTable, Expr, Insert, Item, Key, Kind,
-    Level, Lock, OrderKey, Select, Stmt, Update,
+    Level, Lock, OrderKey, Policy, Select, Stmt, Strength, Update,
 };
 
 impl<'a, 'b> Alike<Name<'b>> for Name<'a> {
@@ -105,6 +107,30 @@ impl Alike<Level> for Level {
     }
 }
 
+impl Alike<Strength> for Strength {
+    ghost Seen = { strengths.Strength };
+
+    ghost seen = { λ s. s };
+
+    ghost seen_other = { λ s. s };
+
+    fn alike(&self, other: &Strength) -> bool {
+        *self == *other
+    }
+}
+
+impl Alike<Policy> for Policy {
+    ghost Seen = { policies.Policy };
+
+    ghost seen = { λ p. p };
+
+    ghost seen_other = { λ p. p };
+
+    fn alike(&self, other: &Policy) -> bool {
+        *self == *other
+    }
+}
+
 impl Alike<Lock> for Lock {
     ghost Seen = { locks.Lock };
 
@@ -113,7 +139,7 @@ impl Alike<Lock> for Lock {
     ghost seen_other = { λ l. l };
 
     fn alike(&self, other: &Lock) -> bool {
-        *self == *other
+        self.strength.alike(&other.strength) && self.policy.alike(&other.policy)
     }
 }
 

@@ -14,7 +14,10 @@ use Rattle.sql_trees.specs.declared.expr.AggKind.TheVariants as aggs
 use Rattle.sql_trees.specs.declared.stmt.Level.{Level}
 use Rattle.sql_trees.specs.declared.stmt.Level.TheVariants.{ReadCommitted, RepeatableRead}
 use Rattle.sql_trees.specs.declared.stmt.Lock.{Lock}
-use Rattle.sql_trees.specs.declared.stmt.Lock.TheVariants as locks
+use Rattle.sql_trees.specs.declared.stmt.Strength.{Strength}
+use Rattle.sql_trees.specs.declared.stmt.Strength.TheVariants as strengths
+use Rattle.sql_trees.specs.declared.stmt.Policy.{Policy}
+use Rattle.sql_trees.specs.declared.stmt.Policy.TheVariants as policies
 use Rattle.sql_trees.specs.Statements.{StmtTree, Begin, Commit, Rollback, SetTransaction, SetDeadlockTimeout, DropTables, Inserts, Updates, Deletes, Selects}
 use Rattle.sql_trees.specs.Statements.{SetTree, ItemTree, OrderTree, All, Value, Aggregate}
 use Rattle.sql_trees.specs.Tokens.{Token, Tokens, named}
@@ -264,11 +267,25 @@ pub data OrderIs (E : Tokens → Tree → Type 0) : Tokens → List OrderTree �
       Key words.Order order → Key words.By by → Commas (AddsKey E) [] list keys →
       OrderIs E (order ∷ by ∷ list) keys
 
--- [FOR (UPDATE | SHARE)] (13.3.2)
+-- UPDATE | NO KEY UPDATE | SHARE | KEY SHARE (13.3.2)
+pub data StrengthIs : Tokens → Strength → Type 0 where
+  update : (update : At Token) → Key words.Update update → StrengthIs (update ∷ []) strengths.Update
+  no_key_update : (no key update : At Token) → Key words.No no → Key words.Key key → Key words.Update update → StrengthIs (no ∷ key ∷ update ∷ []) strengths.NoKeyUpdate
+  share : (share : At Token) → Key words.Share share → StrengthIs (share ∷ []) strengths.Share
+  key_share : (key share : At Token) → Key words.Key key → Key words.Share share → StrengthIs (key ∷ share ∷ []) strengths.KeyShare
+
+-- [NOWAIT | SKIP LOCKED]
+pub data PolicyIs : Tokens → Policy → Type 0 where
+  wait : PolicyIs [] policies.Wait
+  no_wait : (nowait : At Token) → Key words.NoWait nowait → PolicyIs (nowait ∷ []) policies.NoWait
+  skip_locked : (skip locked : At Token) → Key words.Skip skip → Key words.Locked locked → PolicyIs (skip ∷ locked ∷ []) policies.SkipLocked
+
+-- [FOR strength [NOWAIT | SKIP LOCKED]]
 pub data LockIs : Tokens → Option Lock → Type 0 where
   no_lock : LockIs [] None
-  for_update : (for_word update : At Token) → Key words.For for_word → Key words.Update update → LockIs (for_word ∷ update ∷ []) (Some locks.Update)
-  for_share : (for_word share : At Token) → Key words.For for_word → Key words.Share share → LockIs (for_word ∷ share ∷ []) (Some locks.Share)
+  locks : (for_word : At Token) (strength_part policy_part : Tokens) (strength : Strength) (policy : Policy) →
+      Key words.For for_word → StrengthIs strength_part strength → PolicyIs policy_part policy →
+      LockIs (for_word ∷ (strength_part ++ policy_part)) (Some (record { strength = strength; policy = policy }))
 
 -- ---- statements
 
@@ -319,7 +336,7 @@ pub data Spells (E : Tokens → Tree → Type 0) : Tokens → StmtTree → Type 
   delete : (delete_word from token : At Token) (table : List ℕ) (where_part : Tokens) (filter : Option Tree) →
       Key words.Delete delete_word → Key words.From from → Names table token → WhereIs E where_part filter →
       Spells E (delete_word ∷ from ∷ token ∷ where_part) (Deletes (record { table = table; filter = filter }))
-  -- SELECT item {"," item} [FROM table_name] [WHERE condition] [ORDER BY sort_key {"," sort_key}] [FOR (UPDATE | SHARE)]
+  -- SELECT item {"," item} [FROM table_name] [WHERE condition] [ORDER BY sort_key {"," sort_key}] [FOR strength [NOWAIT | SKIP LOCKED]]
   select : (select_word : At Token) (list from_part where_part order_part lock_part : Tokens)
       (items : List ItemTree) (table : Option (List ℕ)) (filter : Option Tree) (order : List OrderTree) (lock : Option Lock) →
       Key words.Select select_word → Commas (AddsItem E) [] list items →

@@ -5,7 +5,11 @@ use Rattle.sql_trees.specs.declared.fault.SqlFault.TheVariants.{LeftOut}
 use Rattle.sql_trees.specs.declared.word.Word.TheVariants as words
 use Rattle.sql_trees.specs.declared.expr.AggKind.{AggKind}
 use Rattle.sql_trees.specs.declared.expr.AggKind.TheVariants as aggs
-use Rattle.sql_trees.specs.declared.stmt.Lock.TheVariants as locks
+use Rattle.sql_trees.specs.declared.stmt.Lock.{Lock}
+use Rattle.sql_trees.specs.declared.stmt.Strength.{Strength}
+use Rattle.sql_trees.specs.declared.stmt.Strength.TheVariants as strengths
+use Rattle.sql_trees.specs.declared.stmt.Policy.{Policy}
+use Rattle.sql_trees.specs.declared.stmt.Policy.TheVariants as policies
 use Rattle.iso_lexer.specs.Bytes.{row_of}
 use Rattle.sql_trees.specs.Statements.{StmtTree, ItemTree, All, Value, Aggregate, OrderTree, SelectTree, Selects}
 use Rattle.sql_trees.specs.Tokens.{named}
@@ -41,6 +45,19 @@ module _ (last : ℕ) where
     nulls_first ← either (is_word words.Nulls) (one_of last ((words.First, true) ∷ (words.Last, false) ∷ [])) (gives desc)
     gives (record { expr = e; dir = record { desc = desc; nulls_first = nulls_first } })
 
+  -- how strongly the rows are locked: UPDATE, NO KEY UPDATE, SHARE or KEY SHARE
+  unfoldable pub strength_at : Reader Strength
+  strength_at = either (is_word words.No) (keyword last words.Key >> (keyword last words.Update >> gives strengths.NoKeyUpdate))
+      (either (is_word words.Key) (keyword last words.Share >> gives strengths.KeyShare) (one_of last ((words.Update, strengths.Update) ∷ (words.Share, strengths.Share) ∷ [])))
+
+  -- what is done at a row that others hold: NOWAIT, SKIP LOCKED, or it is waited for
+  unfoldable pub policy_at : Reader Policy
+  policy_at = either (is_word words.NoWait) (gives policies.NoWait) (either (is_word words.Skip) (keyword last words.Locked >> gives policies.SkipLocked) (gives policies.Wait))
+
+  -- how a SELECT locks its rows, behind FOR
+  unfoldable pub lock_behind : Reader Lock
+  lock_behind = strength_at >>= λ s. made (λ p. record { strength = s; policy = p }) policy_at
+
   -- what stands behind a SELECT at this place
   unfoldable pub select_at : ℕ → Reader StmtTree
   select_at place = do
@@ -48,6 +65,6 @@ module _ (last : ℕ) where
     table ← maybe (is_word words.From) (name_at last)
     filter ← filter_at last
     order ← either (is_word words.Order) (keyword last words.By >> list_of (λ keys. sort_key_at)) (gives [])
-    lock ← maybe (is_word words.For) (one_of last ((words.Update, locks.Update) ∷ (words.Share, locks.Share) ∷ []))
+    lock ← maybe (is_word words.For) lock_behind
     let query : SelectTree = record { items = items; table = table; filter = filter; order = order; lock = lock } in
         (whole last (if is_allowed query then None else Some (LeftOut place)) >> gives (Selects query))

@@ -23,7 +23,7 @@ pub use expr::{Agg, AggKind, Expr, Operator, Truth};
 pub use fault::SqlFault;
 pub use kind::{Dir, Kind};
 pub use stmt::{
-    Column, CreateTable, Delete, DropTable, Insert, Item, Key, Level, Lock, OrderKey, Select, Stmt,
+    Column, CreateTable, Delete, DropTable, Insert, Item, Key, Level, Lock, OrderKey, Policy, Select, Stmt, Strength,
     Update,
 };
 pub use token::{Tok, classified};

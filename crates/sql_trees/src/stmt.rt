@@ -76,11 +76,30 @@ pub struct OrderKey<'a> {
     pub dir: Dir,
 }
 
-/// What a SELECT locks its rows with.
+/// How strongly a transaction holds a row, the weakest first (PostgreSQL manual, 13.3.2).
 #[derive(Clone, Copy, PartialEq, Eq)]
-pub enum Lock {
+pub enum Strength {
+    KeyShare,
     Share,
+    NoKeyUpdate,
     Update,
+}
+
+/// What a statement does at a row that others hold in conflict (PostgreSQL manual, SELECT).
+#[derive(Clone, Copy, PartialEq, Eq)]
+pub enum Policy {
+    Wait,
+    /// NOWAIT: it fails.
+    NoWait,
+    /// SKIP LOCKED: it passes the row over.
+    SkipLocked,
+}
+
+/// How a SELECT locks its rows.
+#[derive(Clone, Copy, PartialEq, Eq)]
+pub struct Lock {
+    pub strength: Strength,
+    pub policy: Policy,
 }
 
 #[derive(Drop)]

@@ -59,8 +59,11 @@ pub enum Word {
     Last,
     Level,
     Local,
+    Locked,
     Max,
     Min,
+    No,
+    NoWait,
     Nulls,
     Read,
     Repeatable,
@@ -68,6 +71,7 @@ pub enum Word {
     Session,
     Set,
     Share,
+    Skip,
     Start,
     Sum,
     Text,
@@ -80,7 +84,7 @@ pub enum Word {
     Work,
 }
 
-const KEYWORDS: [(&str, Word); 127] = [
+const KEYWORDS: [(&str, Word); 128] = [
     ("begin", Word::Begin),
     ("start", Word::Start),
     ("commit", Word::Commit),
@@ -135,6 +139,10 @@ const KEYWORDS: [(&str, Word); 127] = [
     ("last", Word::Last),
     ("for", Word::For),
     ("share", Word::Share),
+    ("no", Word::No),
+    ("nowait", Word::NoWait),
+    ("skip", Word::Skip),
+    ("locked", Word::Locked),
     ("and", Word::And),
     ("or", Word::Or),
     ("not", Word::Not),
@@ -196,15 +204,12 @@ const KEYWORDS: [(&str, Word); 127] = [
     ("explain", Word::LeftOut),
     ("index", Word::LeftOut),
     ("lock", Word::LeftOut),
-    ("no", Word::LeftOut),
-    ("nowait", Word::LeftOut),
     ("only", Word::LeftOut),
     ("prepare", Word::LeftOut),
     ("release", Word::LeftOut),
     ("savepoint", Word::LeftOut),
     ("sequence", Word::LeftOut),
     ("serializable", Word::LeftOut),
-    ("skip", Word::LeftOut),
     ("truncate", Word::LeftOut),
     ("vacuum", Word::LeftOut),
     ("view", Word::LeftOut),
@@ -283,7 +288,7 @@ impl Word {
     {
         matches!(
             self,
-            Word::Excluded | Word::LeftOut | Word::Drop | Word::Key | Word::Read | Word::Select
+            Word::Excluded | Word::LeftOut | Word::Drop | Word::Read | Word::Select
         )
     }
 

@@ -8,15 +8,17 @@ use Rattle.row_versions.specs.declared.names.TxId.{TxId}
 use Rattle.row_versions.specs.declared.write.Seen.{Seen}
 use Rattle.row_versions.specs.Log.{Content, values_at}
 use Rattle.row_versions.specs.Newest.{newest_of}
-use Rattle.row_locks.specs.declared.held.Strength.{Strength}
+use Rattle.sql_trees.specs.declared.stmt.Strength.{Strength}
+use Rattle.sql_trees.specs.declared.stmt.Policy.{Policy}
 use Rattle.update_recheck.specs.declared.ask.Ask.{Ask}
 
--- one target: who asks, at which level, the version that its view shows, how strongly the row is wanted, WHERE, and the table's columns
+-- one target: who asks, at which level, the version that its view shows, how strongly the row is wanted, what is done where others hold it, WHERE, and the table's columns
 pub record Asked : Type 0 where
   pub tx : TxId
   pub level : Level
   pub seen : Seen
   pub strength : Strength
+  pub policy : Policy
   pub condition : Option Tree
   pub cols : Cols
 
@@ -27,6 +29,7 @@ asked a = record {
   level = a.level;
   seen = a.seen;
   strength = a.strength;
+  policy = a.policy;
   condition = option_map (λ e. tree_of e.now) a.filter;
   cols = a.cols.now;
 }

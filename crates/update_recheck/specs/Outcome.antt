@@ -3,6 +3,7 @@ use Rattle.std.specs.Prelude.{◌==◌, Bool, true, false, List, Option, Some, N
 use Rattle.std.specs.Option.{option_map_or}
 use Rattle.sql_trees.specs.declared.stmt.Level.{Level}
 use Rattle.sql_trees.specs.declared.stmt.Level.TheVariants.{ReadCommitted, RepeatableRead}
+use Rattle.sql_trees.specs.declared.stmt.Policy.TheVariants.{Wait, NoWait, SkipLocked}
 use Rattle.sql_values.specs.declared.value.Value.{Value}
 use Rattle.sql_values.specs.declared.fault.ValueFault.{ValueFault}
 use Rattle.sql_values.specs.Expressions.{passes}
@@ -30,6 +31,7 @@ pub data Outcome : Type 0 where
   Skips : Outcome
   Waits : Outcome
   Deadlocks : Outcome
+  NotFree : Outcome
   Serializes : Outcome
   Faults : ValueFault → Outcome
 
@@ -48,9 +50,14 @@ outcome ReadCommitted found stop (Newer newer (Err fault)) = unwrap_or stop (Fau
 abbrev pub row_blockers : List Held → Asked → List TxId
 row_blockers held ask = holders_against held ask.seen.row ask.tx ask.strength
 
--- what stops the target, by the locks that are held and the waits that stand: it waits for its blockers, if it has any, unless that wait would close a cycle
+-- what comes of a target that has these blockers: it waits for them, unless that wait would close a cycle; with NOWAIT the row isn't free,
+-- with SKIP LOCKED it is passed over (SELECT, "The Locking Clause")
+abbrev pub held_by : List Waiting → Asked → List TxId → Outcome
+held_by waits ask by = elim ask.policy [ Wait ↦ if closes waits ask.tx by then Deadlocks else Waits | NoWait ↦ NotFree | SkipLocked ↦ Skips ]
+
+-- what stops the target, by the locks that are held and the waits that stand, if it has blockers
 abbrev pub stop : List Held → List Waiting → Asked → Option Outcome
-stop held waits ask = let by = row_blockers held ask in if is_none_of by then None else Some (if closes waits ask.tx by then Deadlocks else Waits)
+stop held waits ask = let by = row_blockers held ask in if is_none_of by then None else Some (held_by waits ask by)
 
 -- a version beside the one that the view shows, by its values, if it has any
 abbrev pub version_at : Asked → Seen → Option (List Value) → Version

@@ -7,10 +7,10 @@ use Rattle.row_versions.specs.Members.{has, is_distinct}
 use Rattle.row_locks.specs.Held.{IsTaken, with_lock}
 use Rattle.row_locks.specs.Waiting.{Waiting}
 use Rattle.update_recheck.specs.declared.ask.Settled.{Settled}
-use Rattle.update_recheck.specs.declared.ask.Settled.TheVariants.{Take, Skip, Wait, Deadlock, Serialize, Fault}
+use Rattle.update_recheck.specs.declared.ask.Settled.TheVariants.{Take, Skip, Wait, Deadlock, NotFree as NotFreeThere, Serialize, Fault}
 use Rattle.update_recheck.specs.Asked.{Asked}
 use Rattle.update_recheck.specs.Outcome.{Outcome, target_outcome}
-use Rattle.update_recheck.specs.Outcome.Outcome.{Takes, Skips, Waits, Deadlocks, Serializes, Faults}
+use Rattle.update_recheck.specs.Outcome.Outcome.{Takes, Skips, Waits, Deadlocks, NotFree, Serializes, Faults}
 
 -- the outcome that an answer names
 abbrev pub outcome_of : Settled → Outcome
@@ -18,6 +18,7 @@ outcome_of (Take seen) = Takes seen
 outcome_of Skip = Skips
 outcome_of (Wait blockers) = Waits
 outcome_of Deadlock = Deadlocks
+outcome_of NotFreeThere = NotFree
 outcome_of Serialize = Serializes
 outcome_of (Fault fault) = Faults fault
 
@@ -31,6 +32,7 @@ WaitsFor blockers (Take seen) = Unit {0}
 WaitsFor blockers Skip = Unit {0}
 WaitsFor blockers (Wait found) = SameMembers found.items blockers × is_distinct found.items
 WaitsFor blockers Deadlock = Unit {0}
+WaitsFor blockers NotFreeThere = Unit {0}
 WaitsFor blockers Serialize = Unit {0}
 WaitsFor blockers (Fault fault) = Unit {0}
 

@@ -12,9 +12,11 @@ use Rattle.row_versions.specs.declared.write.Write.{Write}
 use Rattle.row_versions.specs.declared.write.View.{View}
 use Rattle.row_versions.specs.Log.{Content, IsOpen, after_begin}
 use Rattle.row_versions.specs.Rows.{rows_of}
-use Rattle.row_locks.specs.declared.held.Strength.{Strength}
+use Rattle.sql_trees.specs.declared.stmt.Strength.{Strength}
+use Rattle.sql_trees.specs.declared.stmt.Strength.TheVariants.{NoKeyUpdate, Update}
+use Rattle.sql_trees.specs.declared.stmt.Policy.TheVariants.{Wait}
 use Rattle.row_locks.specs.declared.held.Held.{Held}
-use Rattle.row_locks.specs.Held.{holds, lock_of_write}
+use Rattle.row_locks.specs.Held.{conflicts, holds}
 use Rattle.row_locks.specs.Waiting.{Waiting}
 use Rattle.row_versions.specs.Members.{is_none_of}
 use Rattle.row_locks.specs.Cycles.{blocks, Closes, NoCycle, AllEnd}
@@ -40,7 +42,7 @@ use Rattle.session_machine.specs.Views.{rows_shown}
 use Rattle.session_machine.specs.Transactions.{fresh, view_of}
 use Rattle.session_machine.specs.Waits.{blockers, is_blocked, waits_in, is_still_blocked}
 use Rattle.session_machine.specs.Statements.{Surroundings}
-use Rattle.session_machine.specs.Rows.{Work, columns_in, stop_at_key}
+use Rattle.session_machine.specs.Rows.{Work, columns_in, stop_at_key, table_named}
 use Rattle.session_machine.specs.Walks.{Blocked, Fails}
 use Rattle.session_machine.specs.Running.{run_stmt}
 use Rattle.session_machine.specs.Targets.{asked_key, passing_targets, taken_targets, going_on, names_at}
@@ -63,13 +65,13 @@ is_worth_a_wait RepeatableRead Same = true
 is_worth_a_wait RepeatableRead Gone = false
 is_worth_a_wait RepeatableRead (Newer newer condition) = false
 
--- a target is answered as a deadlock exactly where it is worth a wait, and a wait for its blockers would close a cycle;
--- it waits exactly where it is worth a wait, has blockers, and closes none (13.3.4)
+-- a target is answered as a deadlock exactly where it is worth a wait, its statement waits for others, and a wait for its blockers would close a cycle;
+-- it waits exactly where it is worth a wait, its statement waits for others, it has blockers, and closes none (13.3.4); with NOWAIT and SKIP LOCKED it never waits
 pub record DeadlockIsExactAt (c : Content) (held : List Held) (waits : List Waiting) (ask : Asked) : Type 0 where
   pub deadlocks : (target_outcome c held waits ask ≡ Deadlocks)
-      ↔ (IsTrue (is_worth_a_wait ask.level (newest_version c ask)) × Closes (blocks waits) ask.tx (target_blockers held ask))
+      ↔ (IsTrue (is_worth_a_wait ask.level (newest_version c ask)) × (ask.policy ≡ Wait) × Closes (blocks waits) ask.tx (target_blockers held ask))
   pub waits_else : (target_outcome c held waits ask ≡ Waits)
-      ↔ (IsTrue (is_worth_a_wait ask.level (newest_version c ask)) × (is_none_of (target_blockers held ask) ≡ false)
+      ↔ (IsTrue (is_worth_a_wait ask.level (newest_version c ask)) × (ask.policy ≡ Wait) × (is_none_of (target_blockers held ask) ≡ false)
       × ¬ Closes (blocks waits) ask.tx (target_blockers held ask))
 
 abbrev pub DeadlockIsExact : Type 0
@@ -104,15 +106,29 @@ pub record KeyIsExactAt (db : Database) (w : Work) (name : List ℕ) (values : L
 abbrev pub KeyIsExact : Type 0
 KeyIsExact = (db : Database) (w : Work) (name : List ℕ) (values : List Value) (except : Option RowId) (key : KeyTree) → KeyIsExactAt db w name values except key
 
--- a row that an open transaction wrote is held by it alone: the lock is held, and each request of another for the row is blocked (13.3.2)
-pub record IsHeldAlone (db : Database) (w : Write) : Type 0 where
-  pub held : IsTrue (holds db.held (lock_of_write w))
-  pub alone : (other : TxId) (strength : Strength) → other ≢ w.tx → IsTrue (is_blocked db (Row w.row strength) other)
+-- the lock that its transaction holds on a written row, at this strength
+abbrev pub lock_of_write : Strength → Write → Held
+lock_of_write strength w = record { row = w.row; tx = w.tx; strength = strength }
+
+-- a row may be written at this strength: at Update, and where it isn't deleted at NoKeyUpdate (13.3.2)
+abbrev pub lets_write : Strength → Option (List Value) → Bool
+lets_write Update values = true
+lets_write NoKeyUpdate (Some values) = true
+lets_write strength values = false
+
+-- a row that an open transaction wrote at this place of the log is held by it: so strongly that it may write it, and at Update where it inserted the row, which is
+-- named by the place of its first version. Each request of another that conflicts with that is blocked: each one but those at KeyShare, so that nobody else writes the row (13.3.2)
+pub record IsHeldToWrite (db : Database) (place : ℕ) (w : Write) : Type 0 where
+  pub strength : Strength
+  pub held : IsTrue (holds db.held (lock_of_write strength w))
+  pub enough : IsTrue (lets_write strength w.values)
+  pub inserted : w.row.0 ≡ place → strength ≡ Update
+  pub alone : (other : TxId) (asked : Strength) → other ≢ w.tx → IsTrue (conflicts strength asked) → IsTrue (is_blocked db (Row w.row asked) other)
 
 -- so is each row that an open transaction wrote, in every state
 abbrev pub WritesAreHeld : Type 0
 WritesAreHeld = (given : Blocks) (mode : Mode) (count : ℕ) (m : Machine) → Reaches given mode count m
-    → (place : ℕ) (w : Write) → slice_get m.db.content.log place ≡ Some w → IsOpen m.db.content w.tx → IsHeldAlone m.db w
+    → (place : ℕ) (w : Write) → slice_get m.db.content.log place ≡ Some w → IsOpen m.db.content w.tx → IsHeldToWrite m.db place w
 
 -- where a statement goes on, its targets are the same: those that pass WHERE, and those that a locking SELECT takes
 pub record SameTargets (before after : Database) (p : Progress) (t : OpenTransaction) (around : Surroundings) : Type 0 where
@@ -176,14 +192,6 @@ database_at db transaction = record db { content = after_begin db.content }
 abbrev pub stmt_at : Blocks → Option Place → Option StmtTree
 stmt_at given None = None
 stmt_at given (Some place) = slice_get (stmts_of given place.block) place.next
-
--- the table that a statement names whose rows it goes over, or to which it adds rows
-abbrev pub table_named : StmtTree → Option (List ℕ)
-table_named (Inserts i) = Some i.table
-table_named (Updates u) = Some u.table
-table_named (Deletes d) = Some d.table
-table_named (Selects s) = s.table
-table_named stmt = None
 
 -- the table of a statement that begins here, which is the one that its name means, or that is in the middle of its targets
 abbrev pub table_at : Database → Transaction → Option Progress → StmtTree → Option ℕ

@@ -11,13 +11,12 @@ use Rattle.query_results.specs.Updates.{columns_set, updated}
 use Rattle.row_versions.specs.declared.names.TxId.{TxId}
 use Rattle.row_versions.specs.declared.names.RowId.{RowId}
 use Rattle.row_versions.specs.declared.write.Seen.{Seen}
-use Rattle.row_locks.specs.declared.held.Strength.{Strength}
-use Rattle.row_locks.specs.declared.held.Strength.TheVariants.{Exclusive}
+use Rattle.sql_trees.specs.declared.stmt.Policy.TheVariants.{Wait}
 use Rattle.row_locks.specs.Held.{with_lock}
 use Rattle.row_locks.specs.Cycles.{blocks, Closes}
-use Rattle.update_recheck.specs.Asked.{Asked}
 use Rattle.update_recheck.specs.Outcome.{newest_version, target_outcome}
 use Rattle.update_recheck.specs.Outcome.Outcome.{Takes}
+use Rattle.update_recheck.specs.Settling.{lock_of}
 use Rattle.session_machine.specs.declared.session.OpenTransaction.{OpenTransaction}
 use Rattle.session_machine.specs.declared.session.Progress.{Progress}
 use Rattle.session_machine.specs.declared.session.Request.{Request}
@@ -37,12 +36,12 @@ use Rattle.session_machine.specs.Transactions.{view_of}
 use Rattle.session_machine.specs.Waits.{blockers, waits_in}
 use Rattle.session_machine.specs.Statements.{Surroundings}
 use Rattle.session_machine.specs.Walks.{Walk}
-use Rattle.session_machine.specs.Rows.{Work, columns_in, cols_in, values_of, insert_row, visit_target, strength_of}
+use Rattle.session_machine.specs.Rows.{Work, columns_in, cols_in, values_of, insert_row, policy_of, strength_at, table_named, target_asked, visit_target}
 use Rattle.session_machine.specs.Running.{fault_in}
 use Rattle.session_machine.specs.Targets.{asked_key, going_on, passing_targets, taken_targets}
 use Rattle.session_machine.specs.Machine.{Machine, Blocks, Next, next, opening, Run}
 use Rattle.session_machine.specs.Engine.{IsLegal}
-use Rattle.wait_laws.specs.Laws.{database_at, has_another, is_worth_a_wait, key_holders, stmt_at, table_named, transaction_at}
+use Rattle.wait_laws.specs.Laws.{database_at, has_another, is_worth_a_wait, key_holders, stmt_at, transaction_at}
 
 -- a statement comes to a target, the walk before which is given, where nothing stops it at those before
 abbrev pub ComesTo : {A : Type 0} → (Walk → A → Walk) → Walk → List A → Walk → A → Type 0
@@ -66,18 +65,15 @@ abbrev pub AsksForKey : Database → Work → Option RowId → Result (List Valu
 AsksForKey db w except made request =
     (values : List Value) × (made ≡ Ok values) × (null_in (columns_in db w) values ≡ None) × AsksForKeyOf db w values except (keys_of db w) request
 
--- the target, as the statement asks for it
-abbrev pub target_asked : Database → Work → Strength → Option Tree → Seen → Asked
-target_asked db w strength filter seen = record { tx = w.t.tx; level = w.t.level; seen = seen; strength = strength; condition = filter; cols = cols_in db w }
-
 -- the database once the target is locked
-abbrev pub with_target : Database → Work → Strength → Seen → Database
-with_target db w strength seen = record db { held = with_lock db.held (record { row = seen.row; tx = w.t.tx; strength = strength }) }
+abbrev pub with_target : Database → Work → StmtTree → Seen → Database
+with_target db w stmt seen = record db { held = with_lock db.held (lock_of (target_asked db w stmt seen)) }
 
--- at a target the row is asked for, where that is worth a wait
-abbrev pub AsksForRow : Database → Work → Strength → Option Tree → Seen → Request → Type 0
-AsksForRow db w strength filter seen request =
-    (request ≡ Row seen.row strength) × IsTrue (is_worth_a_wait w.t.level (newest_version db.content (target_asked db w strength filter seen)))
+-- at a target the row is asked for, where that is worth a wait, and the statement waits for others
+abbrev pub AsksForRow : Database → Work → StmtTree → Seen → Request → Type 0
+AsksForRow db w stmt seen request =
+    (request ≡ Row seen.row (strength_at db w stmt seen.row)) × (policy_of stmt ≡ Wait)
+    × IsTrue (is_worth_a_wait w.t.level (newest_version db.content (target_asked db w stmt seen)))
 
 -- an UPDATE then asks for the keys of the version that it writes in place of the one that the target takes
 abbrev pub AsksToUpdate : Database → Work → UpdateTree → Seen → Request → Type 0
@@ -85,27 +81,27 @@ AsksToUpdate db w u version request =
     AsksForKey db w (Some version.row) (updated (cols_in db w) (result_unwrap_or (columns_set (columns_in db w) u.sets) []) u.sets (values_of db version)) request
 
 -- at a target that a statement comes to it asks for the row, and an UPDATE, once that is locked, for keys: this, with the database as it is then
-abbrev pub AsksAtTarget : Work → StmtTree → Strength → Option Tree → Database → Seen → Database → Request → Type 0
-AsksAtTarget w stmt strength filter before seen db request =
-    ((db ≡ before) × AsksForRow before w strength filter seen request)
+abbrev pub AsksAtTarget : Work → StmtTree → Database → Seen → Database → Request → Type 0
+AsksAtTarget w stmt before seen db request =
+    ((db ≡ before) × AsksForRow before w stmt seen request)
     ⊎ ((u : UpdateTree) × (stmt ≡ Updates u) × (version : Seen)
-    × (target_outcome before.content before.held (waits_in before w.around.sessions) (target_asked before w strength filter seen) ≡ Takes version)
-    × (db ≡ with_target before w strength seen) × AsksToUpdate db w u version request)
+    × (target_outcome before.content before.held (waits_in before w.around.sessions) (target_asked before w stmt seen) ≡ Takes version)
+    × (db ≡ with_target before w stmt seen) × AsksToUpdate db w u version request)
 
 -- so it does at each of its targets, up to the one at which it stops
-abbrev pub AsksOverTargets : Work → StmtTree → Strength → Option Tree → Walk → Result (List Seen) ValueFault → Database → Request → Type 0
-AsksOverTargets w stmt strength filter walk targets db request =
+abbrev pub AsksOverTargets : Work → StmtTree → Walk → Result (List Seen) ValueFault → Database → Request → Type 0
+AsksOverTargets w stmt walk targets db request =
     (seen : List Seen) × (targets ≡ Ok seen) × (before : Walk) × (target : Seen)
-    × ComesTo (visit_target w stmt strength filter) walk (drop walk.place seen) before target × AsksAtTarget w stmt strength filter before.db target db request
+    × ComesTo (visit_target w stmt) walk (drop walk.place seen) before target × AsksAtTarget w stmt before.db target db request
 
 -- INSERT asks for keys at each row of its VALUES, a SELECT that doesn't lock for nothing
 abbrev pub AsksOver : Work → StmtTree → Walk → Database → Request → Type 0
 AsksOver w (Inserts i) walk db request =
     (before : Walk) × (row : List Tree) × ComesTo (insert_row w i) walk (drop walk.place i.rows) before row × (db ≡ before.db)
     × AsksForKey db w None (new_values (length (columns_in db w)) (result_unwrap_or (columns_assigned (columns_in db w) i.columns) []) row) request
-AsksOver w (Updates u) walk db request = AsksOverTargets w (Updates u) Exclusive u.filter walk (passing_targets walk.db w u.filter) db request
-AsksOver w (Deletes d) walk db request = AsksOverTargets w (Deletes d) Exclusive d.filter walk (passing_targets walk.db w d.filter) db request
-AsksOver w (Selects s) walk db request = (l : Lock) × (s.lock ≡ Some l) × AsksOverTargets w (Selects s) (strength_of l) s.filter walk (taken_targets walk.db w s) db request
+AsksOver w (Updates u) walk db request = AsksOverTargets w (Updates u) walk (passing_targets walk.db w u.filter) db request
+AsksOver w (Deletes d) walk db request = AsksOverTargets w (Deletes d) walk (passing_targets walk.db w d.filter) db request
+AsksOver w (Selects s) walk db request = (l : Lock) × (s.lock ≡ Some l) × AsksOverTargets w (Selects s) walk (taken_targets walk.db w s) db request
 AsksOver w stmt walk db request = ⊥
 
 -- where a statement begins, or goes on

@@ -3,7 +3,7 @@ use Rattle.std.specs.Prelude.{ℕ, ◌==◌, Bool, false, not, ◌&&◌, List, [
 use Rattle.row_versions.specs.declared.names.TxId.{TxId}
 use Rattle.row_versions.specs.declared.names.RowId.{RowId}
 use Rattle.row_versions.specs.Members.{same_tx, has}
-use Rattle.row_locks.specs.declared.held.Strength.{Strength}
+use Rattle.sql_trees.specs.declared.stmt.Strength.{Strength}
 use Rattle.row_locks.specs.declared.held.Held.{Held}
 use Rattle.row_locks.specs.Held.{conflicts}
 use Rattle.row_locks.specs.Waiting.{Waiting}

@@ -20,12 +20,14 @@ use Rattle.query_results.specs.Updates.{columns_set, update_exprs, updated}
 use Rattle.row_versions.specs.declared.names.RowId.{RowId}
 use Rattle.row_versions.specs.declared.write.Seen.{Seen}
 use Rattle.row_versions.specs.Log.{Content, commit_count, after_begin}
-use Rattle.row_locks.specs.declared.held.Strength.{Strength}
-use Rattle.row_locks.specs.declared.held.Strength.TheVariants.{Exclusive}
+use Rattle.sql_trees.specs.declared.stmt.Strength.{Strength}
+use Rattle.sql_trees.specs.declared.stmt.Strength.TheVariants.{Update}
+use Rattle.sql_trees.specs.declared.stmt.Policy.{Policy}
+use Rattle.sql_trees.specs.declared.stmt.Policy.TheVariants.{Wait}
 use Rattle.row_locks.specs.Held.{with_lock}
 use Rattle.update_recheck.specs.Asked.{Asked}
 use Rattle.update_recheck.specs.Outcome.{Outcome as TargetOutcome, target_outcome, is_target_locked}
-use Rattle.update_recheck.specs.Outcome.Outcome.{Takes, Skips, Waits as WaitsThere, Deadlocks, Serializes, Faults}
+use Rattle.update_recheck.specs.Outcome.Outcome.{Takes, Skips, Waits as WaitsThere, Deadlocks, NotFree as IsNotFree, Serializes, Faults}
 use Rattle.update_recheck.specs.Settling.{lock_of}
 use Rattle.session_machine.specs.declared.session.OpenTransaction.{OpenTransaction}
 use Rattle.session_machine.specs.declared.session.Transaction.{Transaction}
@@ -33,7 +35,7 @@ use Rattle.session_machine.specs.declared.session.Transaction.TheVariants.{Close
 use Rattle.session_machine.specs.declared.session.Progress.{Progress}
 use Rattle.session_machine.specs.declared.session.Request.{Request}
 use Rattle.session_machine.specs.declared.session.Request.TheVariants.{Row}
-use Rattle.session_machine.specs.declared.fault.StmtFault.TheVariants.{Value as OfValue, NullValue, NotSerializable, Deadlock, TableExists, NoColumnOf, NoPosition, NoTable, TooManyValues, Aborted}
+use Rattle.session_machine.specs.declared.fault.StmtFault.TheVariants.{Value as OfValue, NullValue, NotSerializable, Deadlock, NotFree, TableExists, NoColumnOf, NoPosition, NoTable, TooManyValues, Aborted}
 use Rattle.session_machine.specs.declared.reply.Outcome.{Outcome}
 use Rattle.session_machine.specs.declared.reply.Outcome.TheVariants.{Done, Rows, Waits, Failed}
 use Rattle.session_machine.specs.Tables.{Database, Table, find_table}
@@ -43,7 +45,7 @@ use Rattle.session_machine.specs.Waits.{waits_in}
 use Rattle.session_machine.specs.Statements.{Surroundings, Effect, fails, answers, turns, drop_tables, level_set}
 use Rattle.session_machine.specs.Walks.{Stop, Walk, Blocked, Fails}
 use Rattle.session_machine.specs.Targets.{going_on, passing_targets, taken_targets}
-use Rattle.session_machine.specs.Rows.{Work, columns_in, cols_in, values_of, written, inserted, stop_at_key, strength_of}
+use Rattle.session_machine.specs.Rows.{Work, columns_in, cols_in, values_of, written, inserted, stop_at_key, update_strength}
 
 -- ---- transactions
 
@@ -127,25 +129,26 @@ abbrev pub insert_one : Work → List ℕ → List AssignedColumn → Database �
 insert_one w name to db row = with_values db (new_values (length (columns_in db w)) to row) (λ values. checked w name db None values (inserted db w values))
 
 -- one target, as it is asked for
-abbrev pub ask : Database → Work → Strength → Option Tree → Seen → Asked
-ask db w strength filter seen = record { tx = w.t.tx; level = w.t.level; seen = seen; strength = strength; condition = filter; cols = cols_in db w }
+abbrev pub ask : Database → Work → Strength → Policy → Option Tree → Seen → Asked
+ask db w strength policy filter seen = record { tx = w.t.tx; level = w.t.level; seen = seen; strength = strength; policy = policy; condition = filter; cols = cols_in db w }
 
 -- the locks once the target is settled
 abbrev pub settled : Database → Work → Asked → Database
 settled db w a = record db { held = if is_target_locked db.content db.held (waits_in db w.around.sessions) a then with_lock db.held (lock_of a) else db.held }
 
--- what is done at a target that came to this: with the version that it takes, or without any
-abbrev pub at_outcome : (Database → Seen → Visit) → Database → Asked → TargetOutcome → Visit
-at_outcome act db a (Takes seen) = act db seen
-at_outcome act db a Skips = goes_on db []
-at_outcome act db a WaitsThere = stops db (Blocked (Row a.seen.row a.strength))
-at_outcome act db a Deadlocks = stops db (Fails Deadlock)
-at_outcome act db a Serializes = stops db (Fails NotSerializable)
-at_outcome act db a (Faults fault) = stops db (Fails (OfValue fault))
+-- what is done at a target of this table that came to this: with the version that it takes, or without any
+abbrev pub at_outcome : List ℕ → (Database → Seen → Visit) → Database → Asked → TargetOutcome → Visit
+at_outcome name act db a (Takes seen) = act db seen
+at_outcome name act db a Skips = goes_on db []
+at_outcome name act db a WaitsThere = stops db (Blocked (Row a.seen.row a.strength))
+at_outcome name act db a Deadlocks = stops db (Fails Deadlock)
+at_outcome name act db a IsNotFree = stops db (Fails (NotFree name))
+at_outcome name act db a Serializes = stops db (Fails NotSerializable)
+at_outcome name act db a (Faults fault) = stops db (Fails (OfValue fault))
 
 -- a target is settled first, and then acted on
-abbrev pub at_target : (Database → Seen → Visit) → Database → Work → Asked → Visit
-at_target act db w a = at_outcome act (settled db w a) a (target_outcome db.content db.held (waits_in db w.around.sessions) a)
+abbrev pub at_target : List ℕ → (Database → Seen → Visit) → Database → Work → Asked → Visit
+at_target name act db w a = at_outcome name act (settled db w a) a (target_outcome db.content db.held (waits_in db w.around.sessions) a)
 
 -- UPDATE with the version that it takes
 abbrev pub update_with : Work → UpdateTree → List AssignedColumn → Database → Seen → Visit
@@ -153,21 +156,21 @@ update_with w u to db seen =
     with_values db (updated (cols_in db w) to u.sets (values_of db seen)) (λ values. checked w u.table db (Some seen.row) values (written db w seen.row (Some values)))
 
 abbrev pub update_one : Work → UpdateTree → List AssignedColumn → Database → Seen → Visit
-update_one w u to db seen = at_target (update_with w u to) db w (ask db w Exclusive u.filter seen)
+update_one w u to db seen = at_target u.table (update_with w u to) db w (ask db w (update_strength db w to u seen.row) Wait u.filter seen)
 
 -- DELETE with the version that it takes
 abbrev pub delete_with : Work → Database → Seen → Visit
 delete_with w db seen = goes_on (written db w seen.row None) []
 
 abbrev pub delete_one : Work → DeleteTree → Database → Seen → Visit
-delete_one w d db seen = at_target (delete_with w) db w (ask db w Exclusive d.filter seen)
+delete_one w d db seen = at_target d.table (delete_with w) db w (ask db w Update Wait d.filter seen)
 
 -- a locking SELECT with the version that it takes
 abbrev pub lock_with : Work → SelectTree → Database → Seen → Visit
 lock_with w s db seen = with_values db (row_values (cols_in db w) s.items (values_of db seen)) (λ row. goes_on db (row ∷ []))
 
 abbrev pub lock_one : Work → SelectTree → Lock → Database → Seen → Visit
-lock_one w s l db seen = at_target (lock_with w s) db w (ask db w (strength_of l) s.filter seen)
+lock_one w s l db seen = at_target (unwrap_or s.table []) (lock_with w s) db w (ask db w l.strength l.policy s.filter seen)
 
 -- ---- over all of them
 
