@@ -222,7 +222,7 @@ same_sessions given mode m event n h =
     let s = there.0 in
     let x = doer m.db s.transaction in
     let k = moved (λ d. Unit {0}) (λ d. Unit {0}) (λ v. Unit {0}) given mode m event s n there.1
-    (record { lock = λ d h own may p. tt; insert = λ d w own now made p. tt; write = λ d w own now held p. tt; create = λ d made p. tt; drop = λ d k p. tt; commit = λ d p. tt; roll_back = λ d p. tt; rest = λ d p. tt })
+    (record { lock = λ d h own may p. tt; insert = λ d w own now made p. tt; write = λ d w strength own now enough held p. tt; create = λ d made p. tt; drop = λ d k p. tt; commit = λ d p. tt; roll_back = λ d p. tt; rest = λ d p. tt })
     (allows_all m.db s.transaction s.statement) tt h in
     ap (λ (y : Machine). length y.sessions) k.is ∙ length-set m.sessions (session_of event) k.u
 
