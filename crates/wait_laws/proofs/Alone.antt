@@ -1,5 +1,5 @@
 -- Whoever writes a row holds it so that nobody else writes it, in every state.
-use Rattle.std.proofs.Common.{◌≡◌, sym, ℕ}
+use Rattle.std.proofs.Common.{sym, ℕ}
 use Rattle.row_versions.specs.declared.write.Write.{Write}
 use Rattle.row_locks.specs.Held.{holders_against}
 use Rattle.row_locks.proofs.Holding.{blockers_hold}
