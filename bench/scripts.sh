@@ -99,6 +99,10 @@ def timeline():
     case("timeline: a name of 100,000 letters is drawn in less than ten seconds", ran.returncode == 0 and time.monotonic() - began < 10)
     case("timeline: the level of a BEGIN in a setup stands behind the session's name", b"s (Repeatable Read)" in drawn(ONE_SPEC, text_of("step a: SELECT 1;\n")).stdout)
     case("timeline --svg: so it does in a picture", b"Repeatable Read" in drawn(ONE_SPEC, text_of("step a: SELECT 1;\n"), "--svg").stdout)
+    for words, status in ((["--help"], 0), ([], 2), (["--png", "a.spec"], 2), (["--split"], 2)):
+        ran = run([f"{here}/timeline", *words])
+        said = ran.stdout if status == 0 else ran.stderr
+        case(f"timeline {' '.join(words)}: how to call it, with status {status}", ran.returncode == status and said.startswith(b"timeline [--svg]"))
     spec = f"{here}/examples/specs/serialization_failure.spec"
     with open(f"{here}/examples/expected/serialization_failure.out", "rb") as it:
         text = it.read()
