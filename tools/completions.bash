@@ -7,7 +7,7 @@ _isolationtester() {
 _timeline() {
   local word=${COMP_WORDS[COMP_CWORD]}
   if [[ $word == -* ]]; then
-    mapfile -t COMPREPLY < <(compgen -W "--svg --split" -- "$word")
+    mapfile -t COMPREPLY < <(compgen -W "--svg --split --help" -- "$word")
   else
     mapfile -t COMPREPLY < <(compgen -f -X '!*.spec' -- "$word"; compgen -d -- "$word")
   fi

@@ -1,8 +1,9 @@
 #!/usr/bin/env python3
 """Says what happens at each level: runs the gallery's anomalies at Read Committed and at Repeatable Read, and prints a table: tools/levels.py PROGRAM [WORD..]
 
-Of each file the first permutation is run, with each BEGIN at the level in question. An anomaly shows where its sign stands in the text. The status is 0
-where all are as the manual's Table 13.1 and Hermitage's rows for PostgreSQL have them, and 1 where one isn't. bench/levels.sh calls this.
+Of each file the first permutation is run, with each BEGIN at the level in question. An anomaly shows where its sign stands in the text. The last column
+names the files that show what to do about it. The status is 0 where all are as the manual's Table 13.1 and Hermitage's rows for PostgreSQL have them,
+and 1 where one isn't. bench/levels.sh calls this.
 """
 import os
 import re
@@ -15,6 +16,23 @@ LEVELS = ("READ COMMITTED", "REPEATABLE READ")
 # What each level lets through: Hermitage's rows for PostgreSQL, and the manual's Table 13.1 as PostgreSQL does it.
 HERMITAGE = {"G0": "", "G1a": "", "G1b": "", "G1c": "", "OTV": "", "PMP": "1", "P4": "1", "G-single": "1", "G2-item": "12", "G2": "12"}
 MANUAL = {"Dirty read": "", "Nonrepeatable read": "1", "Phantom read": "1", "Serialization anomaly": "12"}
+
+# Which files show the way out of an anomaly at both levels, or at one.
+CURES = {
+    "non_repeatable_read": "non_repeatable_read_and_for_share",
+    "phantom": "phantom_and_a_row_to_lock",
+    "delete_misses_moved_row": "delete_misses_moved_row_and_retry",
+    "delete_by_a_changed_condition": "delete_by_a_changed_condition_and_row_locks",
+    "lost_update": "lost_update_and_one_statement lost_update_and_for_update lost_update_and_retry",
+    "read_skew": "read_skew_and_one_statement",
+    "read_skew_of_changed_rows": "read_skew_of_changed_rows_and_for_share",
+    "read_skew_by_condition": "read_skew_by_condition_and_one_statement",
+    "read_skew_and_delete": "read_skew_and_delete_and_for_update",
+    "write_skew": "write_skew_and_row_locks",
+    "double_booking": "double_booking_refused",
+    "sums_of_classes": "sums_of_classes_and_a_row_to_change",
+    "read_only_anomaly": "read_only_anomaly_and_row_locks",
+}
 
 # Code in Hermitage, row of Table 13.1, file, and what stands in the text where the anomaly shows.
 ROWS = (
@@ -70,12 +88,13 @@ def main():
     if not program:
         sys.exit(__doc__)
     other = []
-    print("| File | Hermitage | Table 13.1 | Read Committed | Repeatable Read |\n|---|---|---|---|---|")
+    print("| File | Hermitage | Table 13.1 | Read Committed | Repeatable Read | Cure |\n|---|---|---|---|---|---|")
     for code, row, name, sign in ROWS:
         with open(f"{SPECS}/{name}.spec", encoding="utf-8") as it:
             spec = it.read()
         cells = {level: said(printed(program, at_level(spec, level)), sign) for level in LEVELS}
-        print(f"| `{name}` | {code} | {row} | {' | '.join(cells.values())} |", flush=True)
+        cures = ", ".join(f"`{it}`" for it in CURES.get(name, "").split())
+        print(f"| `{name}` | {code} | {row} | {' | '.join(cells.values())} | {cures} |", flush=True)
         for table, key in ((HERMITAGE, code), (MANUAL, row)):
             if key and any((cell == "shows") != lets_through(table[key], level) for level, cell in cells.items()):
                 other.append(f"{name}: {key} is otherwise")

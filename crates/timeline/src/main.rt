@@ -69,6 +69,16 @@ fn request_of(words: &[String]) -> Option<Request<'_>> {
     })
 }
 
+/// Whether help is asked for.
+fn asks_help(words: &[String]) -> bool {
+    for word in words.iter().skip(1) {
+        if word.as_str() == "--help" {
+            return true;
+        }
+    }
+    false
+}
+
 fn drawing(
     alloc: Global,
     is_picture: bool,
@@ -114,6 +124,10 @@ fn draw(rt: &HostRuntime, request: &Request<'_>) -> Result<()> {
 
 fn main(rt: HostRuntime) -> Result<ExitCode> {
     let words: Vec<String> = env::args(&rt)?.collect(rt.alloc())?;
+    if asks_help(&words) {
+        println!(rt; "{USAGE}")?;
+        return Ok(ExitCode::SUCCESS);
+    }
     match request_of(&words) {
         Some(request) => {
             draw(&rt, &request)?;
