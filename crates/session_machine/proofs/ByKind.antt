@@ -1,6 +1,6 @@
 -- A statement that is run does what its kind does.
 use Rattle.std.proofs.Common.{◌≡◌, refl, ap, ◌∙◌, Bool, true, false, ℕ, ◌+◌, List, [], ◌∷◌, ◌++◌, drop, length}
-use Rattle.std.specs.Prelude.{ℤ, Option, Some, None, option_map, slice_get, filter_map, flat_map, nat_lt, option_to_list, Result, Ok, Err, if◌then◌else◌}
+use Rattle.std.specs.Prelude.{ℤ, Option, Some, None, option_map, unwrap_or, slice_get, filter_map, flat_map, nat_lt, option_to_list, Result, Ok, Err, if◌then◌else◌}
 use Rattle.std.specs.List.{cons_option, list_any}
 use Rattle.std.specs.Option.{option_map_or, option_or}
 use Rattle.sql_trees.specs.declared.stmt.Level.TheVariants.{ReadCommitted}
@@ -16,17 +16,17 @@ use Rattle.query_results.specs.Results.{Results}
 use Rattle.query_results.specs.Updates.{columns_set, update_exprs, updated}
 use Rattle.row_versions.specs.declared.names.RowId.{RowId}
 use Rattle.row_versions.specs.declared.write.Seen.{Seen}
-use Rattle.row_locks.specs.declared.held.Strength.{Strength}
-use Rattle.row_locks.specs.declared.held.Strength.TheVariants.{Exclusive}
+use Rattle.sql_trees.specs.declared.stmt.Strength.TheVariants.{Update}
+use Rattle.sql_trees.specs.declared.stmt.Policy.TheVariants.{Wait}
 use Rattle.update_recheck.specs.Asked.{Asked}
 use Rattle.update_recheck.specs.Outcome.{Outcome, target_outcome}
-use Rattle.update_recheck.specs.Outcome.Outcome.{Takes, Skips, Waits, Deadlocks, Serializes, Faults}
+use Rattle.update_recheck.specs.Outcome.Outcome.{Takes, Skips, Waits, Deadlocks, NotFree as IsNotFree, Serializes, Faults}
 use Rattle.session_machine.specs.declared.session.OpenTransaction.{OpenTransaction}
 use Rattle.session_machine.specs.declared.session.Transaction.{Transaction}
 use Rattle.session_machine.specs.declared.session.Transaction.TheVariants.{Closed, Open, Aborted}
 use Rattle.session_machine.specs.declared.session.Progress.{Progress}
 use Rattle.session_machine.specs.declared.fault.StmtFault.{StmtFault}
-use Rattle.session_machine.specs.declared.fault.StmtFault.TheVariants.{Value as OfValue, NullValue, NoColumnOf, NoPosition, NoTable, TableExists, TooManyValues, NotSerializable, Deadlock}
+use Rattle.session_machine.specs.declared.fault.StmtFault.TheVariants.{Value as OfValue, NullValue, NoColumnOf, NoPosition, NoTable, TableExists, TooManyValues, NotSerializable, Deadlock, NotFree}
 use Rattle.session_machine.specs.Tables.{Database, Catalog, find_table}
 use Rattle.session_machine.specs.Transactions.{fresh}
 use Rattle.session_machine.specs.Views.{rows_shown}
@@ -35,7 +35,7 @@ use Rattle.session_machine.specs.Statements.{Surroundings, Effect, answers, fail
 use Rattle.session_machine.specs.declared.reply.Outcome.TheVariants.{Done, Rows}
 use Rattle.session_machine.specs.declared.session.Request.TheVariants.{Row}
 use Rattle.session_machine.specs.Walks.{Walk, Blocked, Fails, passed, stopped, over, Stop}
-use Rattle.session_machine.specs.Rows.{Work, columns_in, cols_in, values_of, written, inserted, stop_at_key, put_row, insert_row, act_on, visit_target, strength_of, over_targets, walk_of}
+use Rattle.session_machine.specs.Rows.{Work, columns_in, cols_in, values_of, written, inserted, stop_at_key, put_row, insert_row, act_on, update_strength, visit_target, over_targets, walk_of}
 use Rattle.session_machine.specs.Running.{leads_to, at_once, begin_at, fault_in, run_in, run_stmt}
 use Rattle.session_machine.specs.Inner.Statements.{keys_in, stop_at_keys, checked, with_values, insert_one, ask, settled, at_outcome, update_with, update_one, delete_with, delete_one, lock_with, lock_one, walked_from, Visit, stops, goes_on, walked, begun}
 use Rattle.session_machine.specs.Inner.Statements.{create, beginning, after_walk, done, assigned_to, unless_undefined, unless_wrong, run_aborted, insert_from, insert, update_from, update, delete, lock_from, answered, select_rows, select, run_open, run_closed, run_on, run_piecewise}
@@ -112,7 +112,7 @@ insert_stays w name to db row = by (new_values (length (columns_in db w)) to row
 update_stays : (w : Work) (u : UpdateTree) (to : List AssignedColumn) (db : Database) (seen : Seen) → (update_one w u to db seen).db.catalog ≡ db.catalog
 update_stays w u to db seen = at (target_outcome db.content db.held (waits_in db w.around.sessions) a) where
   a : Asked
-  a = ask db w Exclusive u.filter seen
+  a = ask db w (update_strength db w to u seen.row) Wait u.filter seen
 
   d : Database
   d = settled db w a
@@ -122,11 +122,12 @@ update_stays w u to db seen = at (target_outcome db.content db.held (waits_in db
   by version (Err fault) = refl
   by version (Ok values) = checked_stays w u.table d (Some version.row) values (written d w version.row (Some values)) refl
 
-  at : (o : Outcome) → (at_outcome (update_with w u to) d a o).db.catalog ≡ db.catalog
+  at : (o : Outcome) → (at_outcome u.table (update_with w u to) d a o).db.catalog ≡ db.catalog
   at (Takes version) = by version (updated (cols_in d w) to u.sets (values_of d version))
   at Skips = refl
   at Waits = refl
   at Deadlocks = refl
+  at IsNotFree = refl
   at Serializes = refl
   at (Faults fault) = refl
 
@@ -155,61 +156,87 @@ walks_so P new old same stays db place rows (x ∷ xs) p =
       by None on = on
       by (Some stop) on = rests new (old db x).db place rows stop xs
 
-goes_over : (P : Database → Type 0) (w : Work) (stmt : StmtTree) (strength : Strength) (filter : Option Tree) (old : Database → Seen → Visit)
-    → ((walk : Walk) (x : Seen) → P walk.db → visit_target w stmt strength filter walk x ≡ onto walk (old walk.db x))
+goes_over : (P : Database → Type 0) (w : Work) (stmt : StmtTree) (old : Database → Seen → Visit)
+    → ((walk : Walk) (x : Seen) → P walk.db → visit_target w stmt walk x ≡ onto walk (old walk.db x))
     → ((d : Database) (x : Seen) → P d → P (old d x).db) → (db : Database) (place : ℕ) (rows : List (List Value)) (r : Result (List ℕ) ValueFault) → P db
-    → over_targets w stmt strength filter (at_walk db place rows) r ≡ walked_from old db place rows (at_places (seen_by db w) r)
-goes_over P w stmt strength filter old same stays db place rows (Ok places) p =
-    walks_so P (visit_target w stmt strength filter) old same stays db place rows (drop place (filter_map (slice_get (seen_by db w)) places)) p
-goes_over P w stmt strength filter old same stays db place rows (Err fault) p = refl
+    → over_targets w stmt (at_walk db place rows) r ≡ walked_from old db place rows (at_places (seen_by db w) r)
+goes_over P w stmt old same stays db place rows (Ok places) p = walks_so P (visit_target w stmt) old same stays db place rows (drop place (filter_map (slice_get (seen_by db w)) places)) p
+goes_over P w stmt old same stays db place rows (Err fault) p = refl
 
 -- ---- what is done at a target
 
 -- by what it comes to
-abbrev settles : (Walk → Seen → Walk) → Walk → Asked → Outcome → Walk
-settles act at a (Takes seen) = act at seen
-settles act at a Skips = passed at at.db []
-settles act at a Waits = stopped at (Blocked (Row a.seen.row a.strength))
-settles act at a Deadlocks = stopped at (Fails Deadlock)
-settles act at a Serializes = stopped at (Fails NotSerializable)
-settles act at a (Faults fault) = stopped at (Fails (OfValue fault))
+abbrev settles : List ℕ → (Walk → Seen → Walk) → Walk → Asked → Outcome → Walk
+settles name act at a (Takes seen) = act at seen
+settles name act at a Skips = passed at at.db []
+settles name act at a Waits = stopped at (Blocked (Row a.seen.row a.strength))
+settles name act at a Deadlocks = stopped at (Fails Deadlock)
+settles name act at a IsNotFree = stopped at (Fails (NotFree name))
+settles name act at a Serializes = stopped at (Fails NotSerializable)
+settles name act at a (Faults fault) = stopped at (Fails (OfValue fault))
 
-settles_so : (new : Walk → Seen → Walk) (old : Database → Seen → Visit) (at : Walk) (a : Asked) (o : Outcome) → ((version : Seen) → new at version ≡ onto at (old at.db version))
-    → settles new at a o ≡ onto at (at_outcome old at.db a o)
-settles_so new old at a (Takes seen) same = same seen
-settles_so new old at a Skips same = refl
-settles_so new old at a Waits same = refl
-settles_so new old at a Deadlocks same = refl
-settles_so new old at a Serializes same = refl
-settles_so new old at a (Faults fault) same = refl
+settles_so : (name : List ℕ) (new : Walk → Seen → Walk) (old : Database → Seen → Visit) (at : Walk) (a : Asked) (o : Outcome)
+    → ((version : Seen) → new at version ≡ onto at (old at.db version)) → settles name new at a o ≡ onto at (at_outcome name old at.db a o)
+settles_so name new old at a (Takes seen) same = same seen
+settles_so name new old at a Skips same = refl
+settles_so name new old at a Waits same = refl
+settles_so name new old at a Deadlocks same = refl
+settles_so name new old at a IsNotFree same = refl
+settles_so name new old at a Serializes same = refl
+settles_so name new old at a (Faults fault) same = refl
 
 module _ (w : Work) where
   updates_so : (u : UpdateTree) (c : Catalog) (to : List AssignedColumn) → ((d : Database) → d.catalog ≡ c → assigned_to (columns_set (columns_in d w) u.sets) ≡ to)
-      → (walk : Walk) (seen : Seen) → walk.db.catalog ≡ c → visit_target w (Updates u) Exclusive u.filter walk seen ≡ onto walk (update_one w u to walk.db seen)
-  updates_so u c to its walk seen same =
-      let a = ask walk.db w Exclusive u.filter seen in
-      let at : Walk = record walk { db = settled walk.db w a } in
-      settles_so (act_on w (Updates u)) (update_with w u to) at a (target_outcome walk.db.content walk.db.held (waits_in walk.db w.around.sessions) a)
-      (λ version.
-      puts_over w u.table version.row (updated (cols_in at.db w) (assigned_to (columns_set (columns_in at.db w) u.sets)) u.sets (values_of at.db version)) at
-      ∙ ap (λ (xs : List AssignedColumn). onto at (update_with w u xs at.db version)) (its at.db same))
+      → (walk : Walk) (seen : Seen) → walk.db.catalog ≡ c → visit_target w (Updates u) walk seen ≡ onto walk (update_one w u to walk.db seen)
+  updates_so u c to its walk seen same = ap goes (its walk.db same) ∙ acts where
+    -- as it is asked for where these columns are assigned
+    asked_to : List AssignedColumn → Asked
+    asked_to xs = ask walk.db w (update_strength walk.db w xs u seen.row) Wait u.filter seen
 
-  deletes_so : (d : DeleteTree) (walk : Walk) (seen : Seen) → visit_target w (Deletes d) Exclusive d.filter walk seen ≡ onto walk (delete_one w d walk.db seen)
+    at_to : List AssignedColumn → Walk
+    at_to xs = record walk { db = settled walk.db w (asked_to xs) }
+
+    goes : List AssignedColumn → Walk
+    goes xs = settles u.table (act_on w (Updates u)) (at_to xs) (asked_to xs) (target_outcome walk.db.content walk.db.held (waits_in walk.db w.around.sessions) (asked_to xs))
+
+    acts : goes to ≡ onto walk (update_one w u to walk.db seen)
+    acts =
+        let at = at_to to in
+        settles_so u.table (act_on w (Updates u)) (update_with w u to) at (asked_to to) (target_outcome walk.db.content walk.db.held (waits_in walk.db w.around.sessions) (asked_to to))
+        (λ version.
+        puts_over w u.table version.row (updated (cols_in at.db w) (assigned_to (columns_set (columns_in at.db w) u.sets)) u.sets (values_of at.db version)) at
+        ∙ ap (λ (xs : List AssignedColumn). onto at (update_with w u xs at.db version)) (its at.db same))
+
+  deletes_so : (d : DeleteTree) (walk : Walk) (seen : Seen) → visit_target w (Deletes d) walk seen ≡ onto walk (delete_one w d walk.db seen)
   deletes_so d walk seen =
-      let a = ask walk.db w Exclusive d.filter seen in
+      let a = ask walk.db w Update Wait d.filter seen in
       let at : Walk = record walk { db = settled walk.db w a } in
-      settles_so (act_on w (Deletes d)) (delete_with w) at a (target_outcome walk.db.content walk.db.held (waits_in walk.db w.around.sessions) a) (λ version. refl)
+      settles_so d.table (act_on w (Deletes d)) (delete_with w) at a (target_outcome walk.db.content walk.db.held (waits_in walk.db w.around.sessions) a) (λ version. refl)
 
-  locks_so : (s : SelectTree) (l : Lock) (walk : Walk) (seen : Seen) → visit_target w (Selects s) (strength_of l) s.filter walk seen ≡ onto walk (lock_one w s l walk.db seen)
-  locks_so s l walk seen =
-      let a = ask walk.db w (strength_of l) s.filter seen in
-      let at : Walk = record walk { db = settled walk.db w a } in
-      settles_so (act_on w (Selects s)) (lock_with w s) at a (target_outcome walk.db.content walk.db.held (waits_in walk.db w.around.sessions) a)
-      (λ version. shown at (row_values (cols_in at.db w) s.items (values_of at.db version))) where
-        shown : (at : Walk) (r : Result (List Value) ValueFault)
-            → (elim r [ Ok row ↦ passed at at.db (row ∷ []) | Err fault ↦ stopped at (Fails (OfValue fault)) ]) ≡ onto at (with_values at.db r (λ row. goes_on at.db (row ∷ [])))
-        shown at (Ok row) = refl
-        shown at (Err fault) = refl
+  locks_so : (s : SelectTree) (l : Lock) → s.lock ≡ Some l → (walk : Walk) (seen : Seen) → visit_target w (Selects s) walk seen ≡ onto walk (lock_one w s l walk.db seen)
+  locks_so s l its walk seen = ap goes its ∙ acts where
+    asked_by : Option Lock → Asked
+    asked_by o = ask walk.db w (option_map_or (λ l. l.strength) o Update) (option_map_or (λ l. l.policy) o Wait) s.filter seen
+
+    at_by : Option Lock → Walk
+    at_by o = record walk { db = settled walk.db w (asked_by o) }
+
+    name : List ℕ
+    name = unwrap_or s.table []
+
+    goes : Option Lock → Walk
+    goes o = settles name (act_on w (Selects s)) (at_by o) (asked_by o) (target_outcome walk.db.content walk.db.held (waits_in walk.db w.around.sessions) (asked_by o))
+
+    shown : (at : Walk) (r : Result (List Value) ValueFault)
+        → (elim r [ Ok row ↦ passed at at.db (row ∷ []) | Err fault ↦ stopped at (Fails (OfValue fault)) ]) ≡ onto at (with_values at.db r (λ row. goes_on at.db (row ∷ [])))
+    shown at (Ok row) = refl
+    shown at (Err fault) = refl
+
+    acts : goes (Some l) ≡ onto walk (lock_one w s l walk.db seen)
+    acts =
+        let at = at_by (Some l) in
+        settles_so name (act_on w (Selects s)) (lock_with w s) at (asked_by (Some l)) (target_outcome walk.db.content walk.db.held (waits_in walk.db w.around.sessions) (asked_by (Some l)))
+        (λ version. shown at (row_values (cols_in at.db w) s.items (values_of at.db version)))
 
 -- ---- what a walk leads to
 
@@ -227,11 +254,11 @@ inserts_from db w i place rows =
           ∙ ap (λ (xs : List AssignedColumn). onto walk (insert_one w i.table xs walk.db row)) (ap (λ (c : Catalog). to_in (record walk.db { catalog = c })) at)
 
 updates_from : (db : Database) (w : Work) (u : UpdateTree) (place : ℕ) (rows : List (List Value)) (r : Result (List ℕ) ValueFault)
-    → leads_to db w (Updates u) (over_targets w (Updates u) Exclusive u.filter (at_walk db place rows) r)
+    → leads_to db w (Updates u) (over_targets w (Updates u) (at_walk db place rows) r)
     ≡ after_walk db.content w done (walked_from (update_one w u (assigned_to (columns_set (columns_in db w) u.sets))) db place rows (at_places (seen_by db w) r))
 updates_from db w u place rows r =
     ap (after_walk db.content w done)
-    (goes_over (λ d. d.catalog ≡ db.catalog) w (Updates u) Exclusive u.filter (update_one w u (to_in db)) (updates_so w u db.catalog (to_in db) same)
+    (goes_over (λ d. d.catalog ≡ db.catalog) w (Updates u) (update_one w u (to_in db)) (updates_so w u db.catalog (to_in db) same)
     (λ d x at. update_stays w u (to_in db) d x ∙ at) db place rows r refl) where
       to_in : Database → List AssignedColumn
       to_in d = assigned_to (columns_set (columns_in d w) u.sets)
@@ -240,18 +267,18 @@ updates_from db w u place rows r =
       same d at = ap (λ (c : Catalog). to_in (record d { catalog = c })) at
 
 deletes_from : (db : Database) (w : Work) (d : DeleteTree) (place : ℕ) (rows : List (List Value)) (r : Result (List ℕ) ValueFault)
-    → leads_to db w (Deletes d) (over_targets w (Deletes d) Exclusive d.filter (at_walk db place rows) r)
+    → leads_to db w (Deletes d) (over_targets w (Deletes d) (at_walk db place rows) r)
     ≡ after_walk db.content w done (walked_from (delete_one w d) db place rows (at_places (seen_by db w) r))
 deletes_from db w d place rows r =
     ap (after_walk db.content w done)
-    (goes_over (λ e. Unit {0}) w (Deletes d) Exclusive d.filter (delete_one w d) (λ walk seen p. deletes_so w d walk seen) (λ e x p. tt) db place rows r tt)
+    (goes_over (λ e. Unit {0}) w (Deletes d) (delete_one w d) (λ walk seen p. deletes_so w d walk seen) (λ e x p. tt) db place rows r tt)
 
-locks_from : (db : Database) (w : Work) (s : SelectTree) (l : Lock) (place : ℕ) (rows : List (List Value)) (r : Result (List ℕ) ValueFault)
-    → leads_to db w (Selects s) (over_targets w (Selects s) (strength_of l) s.filter (at_walk db place rows) r)
+locks_from : (db : Database) (w : Work) (s : SelectTree) (l : Lock) → s.lock ≡ Some l → (place : ℕ) (rows : List (List Value)) (r : Result (List ℕ) ValueFault)
+    → leads_to db w (Selects s) (over_targets w (Selects s) (at_walk db place rows) r)
     ≡ after_walk db.content w (λ shown. Rows (record { titles = titles_of (columns_in db w) s.items; rows = shown })) (walked_from (lock_one w s l) db place rows (at_places (seen_by db w) r))
-locks_from db w s l place rows r =
+locks_from db w s l its place rows r =
     ap (after_walk db.content w (λ shown. Rows (record { titles = titles_of (columns_in db w) s.items; rows = shown })))
-    (goes_over (λ e. Unit {0}) w (Selects s) (strength_of l) s.filter (lock_one w s l) (λ walk seen p. locks_so w s l walk seen) (λ e x p. tt) db place rows r tt)
+    (goes_over (λ e. Unit {0}) w (Selects s) (lock_one w s l) (λ walk seen p. locks_so w s l its walk seen) (λ e x p. tt) db place rows r tt)
 
 -- ---- a statement that begins
 
@@ -340,12 +367,12 @@ module _ (db : Database) (t : OpenTransaction) (around : Surroundings) where
       undefined_so db t undefined _
       ∙ ap (unless_undefined db t undefined) (deletes_from db w d 0 [] (passing (cols_in db w) d.filter (rows_shown db.content w.view w.table)))
 
-  rows_so : (w : Work) (s : SelectTree) (l : Option Lock)
+  rows_so : (w : Work) (s : SelectTree) (l : Option Lock) → s.lock ≡ l
       → option_map_or (leads_to db w (Selects s))
-      (option_map (λ l. over_targets w (Selects s) (strength_of l) s.filter (at_walk db 0 []) (taken s (columns_in db w) (rows_shown db.content w.view w.table))) l)
+      (option_map (λ l. over_targets w (Selects s) (at_walk db 0 []) (taken s (columns_in db w) (rows_shown db.content w.view w.table))) l)
       (at_once db w.t (columns_in db w) (rows_shown db.content w.view w.table) (Selects s)) ≡ select_rows db w s l
-  rows_so w s None = answers_so db w.t (result_of s (columns_in db w) (rows_shown db.content w.view w.table))
-  rows_so w s (Some l) = locks_from db w s l 0 [] (taken s (columns_in db w) (rows_shown db.content w.view w.table))
+  rows_so w s None its = answers_so db w.t (result_of s (columns_in db w) (rows_shown db.content w.view w.table))
+  rows_so w s (Some l) its = locks_from db w s l its 0 [] (taken s (columns_in db w) (rows_shown db.content w.view w.table))
 
   select_begins : (s : SelectTree) (name : List ℕ) (o : Option ℕ) → at_found db t around name (Selects s) o ≡ select_found db t around s name o
   select_begins s name None = refl
@@ -353,7 +380,7 @@ module _ (db : Database) (t : OpenTransaction) (around : Surroundings) where
       let w = beginning db t around k in
       let undefined = undefined_among (cols_in db w) (select_exprs s) in
       let position = wrong_position (columns_in db w) s in
-      wrong_so db t undefined position _ ∙ ap (unless_wrong db t undefined position) (rows_so w s s.lock)
+      wrong_so db t undefined position _ ∙ ap (unless_wrong db t undefined position) (rows_so w s s.lock refl)
 
   select_so : (s : SelectTree) (o : Option (List ℕ))
       → option_map_or (λ name. begin_at db t around name (Selects s)) o (option_map_or (fails db t) (fault_in [] (Selects s)) (at_once db t [] ([] ∷ []) (Selects s))) ≡ select db t around s o
@@ -381,13 +408,13 @@ module _ (db : Database) (t : OpenTransaction) (around : Surroundings) where
   opens_by_kind (Selects s) = select_so s s.table
 
   -- one that goes on
-  select_goes_on : (p : Progress) (s : SelectTree) (l : Option Lock)
+  select_goes_on : (p : Progress) (s : SelectTree) (l : Option Lock) → s.lock ≡ l
       → (let w = going_on t around p in
       option_map_or (leads_to db w (Selects s))
-      (option_map (λ l. over_targets w (Selects s) (strength_of l) s.filter (at_walk db p.place p.rows) (taken s (columns_in db w) (rows_shown db.content w.view w.table))) l)
+      (option_map (λ l. over_targets w (Selects s) (at_walk db p.place p.rows) (taken s (columns_in db w) (rows_shown db.content w.view w.table))) l)
       (run_in db t around (Selects s)) ≡ option_map_or (λ l. lock_from db w s l p.place p.rows) l (select db t around s s.table))
-  select_goes_on p s None = select_so s s.table
-  select_goes_on p s (Some l) = let w = going_on t around p in locks_from db w s l p.place p.rows (taken s (columns_in db w) (rows_shown db.content w.view w.table))
+  select_goes_on p s None its = select_so s s.table
+  select_goes_on p s (Some l) its = let w = going_on t around p in locks_from db w s l its p.place p.rows (taken s (columns_in db w) (rows_shown db.content w.view w.table))
 
   goes_on_by_kind : (p : Progress) (stmt : StmtTree) → run_stmt db (Open t) (Some p) around stmt ≡ run_on db t around p stmt
   goes_on_by_kind p (Begin level) = refl
@@ -402,7 +429,7 @@ module _ (db : Database) (t : OpenTransaction) (around : Surroundings) where
       let w = going_on t around p in updates_from db w u p.place p.rows (passing (cols_in db w) u.filter (rows_shown db.content w.view w.table))
   goes_on_by_kind p (Deletes d) =
       let w = going_on t around p in deletes_from db w d p.place p.rows (passing (cols_in db w) d.filter (rows_shown db.content w.view w.table))
-  goes_on_by_kind p (Selects s) = select_goes_on p s s.lock
+  goes_on_by_kind p (Selects s) = select_goes_on p s s.lock refl
 
 closed_by_kind : (db : Database) (statement : Option Progress) (around : Surroundings) (stmt : StmtTree) → run_stmt db Closed statement around stmt ≡ run_closed db around stmt
 closed_by_kind db statement around Commit = refl
