@@ -28,11 +28,7 @@ const FOUR_LOCK_STRENGTHS: [Line; 9] = [
     ),
     (2, "UPDATE acct SET id = 7 WHERE id = 1", " waits"),
     (1, "COMMIT", ""),
-    (
-        1,
-        "SELECT * FROM acct ORDER BY id",
-        " id bal | 2 200 | 7 5",
-    ),
+    (1, "SELECT * FROM acct ORDER BY id", " id bal | 2 200 | 7 5"),
 ];
 
 #[test]
