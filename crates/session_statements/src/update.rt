@@ -57,7 +57,7 @@ pub(crate) fn update_strength<'a, 't, V: Versions>(
     };
     let columns = db.columns_in(work);
     let keys = db.keys_in(work);
-    let stays = leaves_all(db.alloc(), columns, keys, to, &stmt.sets, newest)?;
+    let stays = leaves_all(db.alloc(), columns, to, &stmt.sets, keys, newest)?;
     if stays {
         Ok(Strength::NoKeyUpdate)
     } else {
