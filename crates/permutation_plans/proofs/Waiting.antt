@@ -8,7 +8,7 @@ use Rattle.row_versions.specs.declared.write.Write.{Write}
 use Rattle.row_versions.specs.declared.write.Fate.{Fate}
 use Rattle.row_versions.specs.declared.write.Fate.TheVariants.{Committed, Open as OpenFate}
 use Rattle.row_locks.specs.declared.held.Held.{Held}
-use Rattle.row_locks.specs.declared.held.Strength.TheVariants.{Exclusive}
+use Rattle.sql_trees.specs.declared.stmt.Strength.TheVariants.{Update}
 use Rattle.session_machine.specs.declared.session.Transaction.{Transaction}
 use Rattle.session_machine.specs.declared.session.Transaction.TheVariants.{Closed, Open}
 use Rattle.session_machine.specs.declared.session.Request.TheVariants.{Row}
@@ -58,7 +58,7 @@ deleting snapshot command = Open (record { tx = record { 0 = 1 }; explicit = tru
 
 -- the row that session 1's transaction has deleted
 abbrev locked : List Held
-locked = record { row = record { 0 = 0 }; tx = record { 0 = 1 }; strength = Exclusive } ∷ []
+locked = record { row = record { 0 = 0 }; tx = record { 0 = 1 }; strength = Update } ∷ []
 
 -- session 2 waits for it, since the event of this number
 abbrev waiting : ℕ → Session
@@ -70,7 +70,7 @@ waiting number = record {
     view = record { tx = Some (record { 0 = 2 }); commits = 1; command = 0 };
     place = 0;
     rows = [];
-    wait = record { number = number; request = Row (record { 0 = 0 }) Exclusive };
+    wait = record { number = number; request = Row (record { 0 = 0 }) Update };
   });
 }
 
