@@ -427,10 +427,22 @@ def lines_tried():
     return {name: it for name, it in lines.items() if os.path.isdir(rooms[name])}
 
 
+def line_of_due(crate):
+    """Returns the line that says that the wrong bodies of a crate are due to be tried on the text as it stands, with the state on which they were tried last."""
+    last = re.search(r"state (\w+)$", lines_tried().get(crate.name, ""))
+    return f"{crate.name}: {len(edits_in(crate, 'wrong_bodies'))} due, tried last on state {last[1] if last else 'none'}"
+
+
 def untried(among):
-    """Returns the crates whose wrong bodies were not all tried and refused on the text as it stands."""
+    """Returns the crates whose wrong bodies were not all tried and refused on the text as it stands, and aren't said to be due."""
     tried = lines_tried()
-    return [it for it in among if edits_in(it, "wrong_bodies") and tried.get(it.name) != line_of(it)]
+    return [it for it in among if edits_in(it, "wrong_bodies") and tried.get(it.name) not in (line_of(it), line_of_due(it))]
+
+
+def waiting(among):
+    """Returns the crates whose wrong bodies are said to be due."""
+    tried = lines_tried()
+    return [it for it in among if edits_in(it, "wrong_bodies") and tried.get(it.name) == line_of_due(it)]
 
 
 def untold(among):
