@@ -133,7 +133,7 @@ def suites():
     case("regress: all of examples/ pass, as TAP", ran.returncode == 0 and f"1..{of}" in lines and sum(it.startswith("ok ") for it in lines) == of)
     expected = f"{room}/suite/expected/phantom.out"
     right = open(expected, "rb").read()
-    put("suite/expected/phantom.out", right.replace(b"Cid", b"Dan", 1))
+    put("suite/expected/phantom.out", right.replace(b"\nCid", b"\nDan", 1))
     ran = regress()
     said, told = ran.stdout.decode(), open(f"{room}/suite/regression.diffs").read()
     case("regress: a damaged text fails alone, with status 1 and its difference", ran.returncode == 1 and said.count("not ok") == 1 and f"# 1 of {of} tests failed." in said and "-Dan" in told and "+Cid" in told)
