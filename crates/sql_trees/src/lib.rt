@@ -23,8 +23,8 @@ pub use expr::{Agg, AggKind, Expr, Operator, Truth};
 pub use fault::SqlFault;
 pub use kind::{Dir, Kind};
 pub use stmt::{
-    Column, CreateTable, Delete, DropTable, Insert, Item, Key, Level, Lock, OrderKey, Policy, Select, Stmt, Strength,
-    Update,
+    Column, CreateTable, Delete, DropTable, Insert, Item, Key, Level, Lock, OrderKey, Policy,
+    Select, Stmt, Strength, Update,
 };
 pub use token::{Tok, classified};
 pub use word::{Word, word_of, words_are_classed};
