@@ -14,13 +14,19 @@ loop-turn-init c =
     record {
       launched = refl;
       lines = sym (through_waiting c.args.run.now c.args.m c.args.chosen c.args.self.now.lines c.args.self.now.launched);
+      grown = omega arith;
       fewer = omega (arith, c.self.inside.waiting.ok.0);
     }
 
-pub returns : goal.returns
-returns c =
+pub returns-clause-lines : goal.returns-clause-lines
+returns-clause-lines c =
     let so_far : List Line → ℕ → LinesSoFar = λ lines launched. record { lines = lines; launched = launched } in
     let over : length (active c.loop-turn.self.lines c.loop-turn.self.launched) ≤ c.loop-turn.place = omega arith in
     let lines = sym (through_end c.args.run.now c.args.m c.args.chosen c.loop-turn.self.lines c.loop-turn.self.launched c.loop-turn.place over) ∙ c.loop-turn.invariant.lines in
     ap (λ (x : List Line). so_far x c.loop-turn.self.launched) lines
     ∙ ap (so_far (fold (chosen_retry c.args.run.now c.args.m c.args.chosen) c.args.self.now.lines (instances c.args.self.now.launched))) c.loop-turn.invariant.launched
+
+pub returns-in_err-try_at-clause-memory : goal.returns-in_err-try_at-clause-memory
+returns-in_err-try_at-clause-memory c =
+    let same = ap length c.loop-turn.invariant.lines in
+    omega (arith, same, c.loop-turn.invariant.grown, c.in_err-try_at.ensures.memory)
