@@ -114,7 +114,11 @@ impl<'a> PlannedRun<'a> {
     ghost use Rattle.report_lines.specs.Inner.Due.{due_last};
 
     /// A permutation of these entries, with the launches of their steps and of what stands around them, and its history.
-    pub fn new(entries: &'a [Entry], items: &'a [HistItem<'a>], schedule: &Schedule<'a>) -> PlannedRun<'a>
+    pub fn new(
+        entries: &'a [Entry],
+        items: &'a [HistItem<'a>],
+        schedule: &Schedule<'a>,
+    ) -> PlannedRun<'a>
         requires { length schedule.now.setups.now + length entries.now + 1 < 2 ^ 64 }
         ensures { result ≡ record {
           launches = record {

@@ -71,7 +71,7 @@ well_fits Whole (t ∷ ts) xs run ys turns h whole =
     subst (λ (w : List HistItem). FitsFrom Whole (xs ++ w) (length (given xs)) (t ∷ ts)) (sym same) (
       launched t.session t.block Ended xs own (rest ++ ys) turns.3,
       if_well (went_well items (length (given xs)) t.session) _ _
-      (well items (length (given xs)) t.session t.block own (segment_is t.session t.block Ended xs own (rest ++ ys) turns.3 begins) turns.3) here,
+          (well items (length (given xs)) t.session t.block own (segment_is t.session t.block Ended xs own (rest ++ ys) turns.3 begins) turns.3) here,
     )
 
 no_setup : {A : Type 0} (a : A) → None ≡ Some a → ⊥
@@ -92,8 +92,8 @@ cut_fits Whole (t ∷ ts) zero setup ended xs run last all turns there stops =
     let one : FitsFrom Whole (xs ++ (last ++ [])) k (t ∷ ts) = (
       launched t.session t.block (Stopped ended) xs last [] runs,
       if_ill (went_well (xs ++ (last ++ [])) k t.session) _ _
-      (ill (xs ++ (last ++ [])) k t.session t.block ended last (segment_is t.session t.block (Stopped ended) xs last [] runs tt) all runs)
-      (subst (λ (w : List HistItem). IsStopped (xs ++ w) k) (sym (append-nil last)) (stopped t.session t.block ended xs last runs, count)),
+          (ill (xs ++ (last ++ [])) k t.session t.block ended last (segment_is t.session t.block (Stopped ended) xs last [] runs tt) all runs)
+          (subst (λ (w : List HistItem). IsStopped (xs ++ w) k) (sym (append-nil last)) (stopped t.session t.block ended xs last runs, count)),
     ) in
     subst (λ (w : List HistItem). FitsFrom Whole (xs ++ w) k (t ∷ ts)) (append-nil last ∙ ap (λ (w : List HistItem). w ++ last) (sym turns)) one
 cut_fits Whole (t ∷ ts) (suc number) setup ended xs run last all turns there stops =
@@ -109,7 +109,7 @@ cut_fits Whole (t ∷ ts) (suc number) setup ended xs run last all turns there s
     subst (λ (w : List HistItem). FitsFrom Whole (xs ++ w) (length (given xs)) (t ∷ ts)) (sym same) (
       launched t.session t.block Ended xs own (rest ++ last) turns.3,
       if_well (went_well items (length (given xs)) t.session) _ _
-      (well items (length (given xs)) t.session t.block own (segment_is t.session t.block Ended xs own (rest ++ last) turns.3 begins) turns.3) here,
+          (well items (length (given xs)) t.session t.block own (segment_is t.session t.block Ended xs own (rest ++ last) turns.3 begins) turns.3) here,
     )
   where
     stop_begins : (session block : ℕ) (end : BlockState) (own : List HistItem) → RunsBlock session block end own → Begins own

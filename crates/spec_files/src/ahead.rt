@@ -35,7 +35,9 @@ fn at_a_time(sessions: usize) -> usize
     ensures few { (0 < result) × (result ≤ 8) }
     ensures threads { (result ≡ 1) ⊎ (result * (sessions + 1) ≤ 40) }
 {
-    (MOST_THREADS / sessions.saturating_add(1)).clamp(1, MOST_AT_A_TIME)
+    let each = sessions.saturating_add(1);
+    let fit = MOST_THREADS / each;
+    fit.clamp(1, MOST_AT_A_TIME)
 }
 
 /// How many permutations of so many sessions run ahead of their turn, at most.
