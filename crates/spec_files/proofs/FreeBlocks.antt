@@ -63,20 +63,31 @@ block_given session block end (item ∷ items) runs =
 pub start_behind : (xs zs : List HistItem) (j : ℕ) → segment_start (xs ++ zs) (length (given xs) + j) ≡ length xs + segment_start zs j
 start_behind [] zs j = refl
 start_behind (x ∷ xs) zs j = by (is_order x.event) refl where
-  by : (b : Bool) → is_order x.event ≡ b → segment_start ((x ∷ xs) ++ zs) (length (given (x ∷ xs)) + j) ≡ suc (length xs) + segment_start zs j
+  rest : segment_start (xs ++ zs) (length (given xs) + j) ≡ length xs + segment_start zs j
+  rest = start_behind xs zs j
+
+  on : ℕ → ℕ
+  on k = segment_start (xs ++ zs) k
+
+  skip : (k : ℕ) → is_order x.event ≡ false → on k ≡ length xs + segment_start zs j → segment_start (x ∷ (xs ++ zs)) k ≡ suc (length xs) + segment_start zs j
+  skip zero is so =
+      let more : on zero + 1 ≡ suc (length xs) + segment_start zs j = omega (arith, so) in
+      ap (λ (c : Bool). if c then 0 else (on zero + 1)) is ∙ more
+  skip (suc k) is so =
+      let more : on (suc k) + 1 ≡ suc (length xs) + segment_start zs j = omega (arith, so) in
+      ap (λ (c : Bool). if c then (on k + 1) else (on (suc k) + 1)) is ∙ more
+
+  by : (b : Bool) → is_order x.event ≡ b → segment_start (x ∷ (xs ++ zs)) (length (given (x ∷ xs)) + j) ≡ suc (length xs) + segment_start zs j
   by true is =
       let long : length (given (x ∷ xs)) ≡ suc (length (given xs)) = ap length (given_order (is_order x.event) x.event (given xs) is) in
-      let rest = start_behind xs zs j in
-      ap (λ (n : ℕ). segment_start ((x ∷ xs) ++ zs) (n + j)) long
-      ∙ ap (λ (c : Bool). if c then (segment_start (xs ++ zs) (length (given xs) + j) + 1) else (segment_start (xs ++ zs) (suc (length (given xs) + j)) + 1)) is
-      ∙ (omega (arith, rest))
+      let count : length (given (x ∷ xs)) + j ≡ suc (length (given xs) + j) = omega (arith, long) in
+      let more : on (length (given xs) + j) + 1 ≡ suc (length xs) + segment_start zs j = omega (arith, rest) in
+      ap (segment_start (x ∷ (xs ++ zs))) count
+      ∙ ap (λ (c : Bool). if c then (on (length (given xs) + j) + 1) else (on (suc (length (given xs) + j)) + 1)) is
+      ∙ more
   by false is =
       let long : length (given (x ∷ xs)) ≡ length (given xs) = ap length (given_none (is_order x.event) x.event (given xs) is) in
-      ap (λ (n : ℕ). segment_start ((x ∷ xs) ++ zs) (n + j)) long ∙ skip (length (given xs) + j) (start_behind xs zs j)
-    where
-      skip : (k : ℕ) → segment_start (xs ++ zs) k ≡ length xs + segment_start zs j → segment_start ((x ∷ xs) ++ zs) k ≡ suc (length xs) + segment_start zs j
-      skip zero rest = ap (λ (c : Bool). if c then 0 else (segment_start (xs ++ zs) zero + 1)) is ∙ (omega (arith, rest))
-      skip (suc k) rest = ap (λ (c : Bool). if c then (segment_start (xs ++ zs) k + 1) else (segment_start (xs ++ zs) (suc k) + 1)) is ∙ (omega (arith, rest))
+      ap (λ (n : ℕ). segment_start (x ∷ (xs ++ zs)) (n + j)) long ∙ skip (length (given xs) + j) is rest
 
 -- it begins with an order, if with anything
 abbrev pub Begins : List HistItem → Type 0
@@ -96,24 +107,29 @@ turns_begin [] items ys runs h = subst (λ (w : List HistItem). Begins (w ++ ys)
 turns_begin (s ∷ ss) items ys runs h =
     subst Begins (sym (ap (λ (w : List HistItem). w ++ ys) runs.2 ∙ append_assoc runs.0 runs.1 ys)) (block_begins s.0 s.1 Ended runs.0 (runs.1 ++ ys) runs.3)
 
+pub middle : {X : Type 0} (xs own ys : List X) → slice_range (xs ++ (own ++ ys)) (length xs) (length xs + length own) ≡ own
+middle xs own ys =
+    let long : length xs + length own - length xs ≡ length own = omega arith in
+    ap (take (length xs + length own - length xs)) (drop_at xs (own ++ ys) (length xs) refl)
+    ∙ ap (λ (n : ℕ). take n (own ++ ys)) long
+    ∙ take_at own ys (length own) refl
+
 -- a block in the middle is its segment
 pub segment_is : (session block : ℕ) (end : BlockState) (xs own ys : List HistItem) → RunsBlock session block end own → Begins ys → segment (xs ++ (own ++ ys)) (length (given xs)) ≡ own
 segment_is session block end xs own ys runs h =
     let items = xs ++ (own ++ ys) in
+    let k = length (given xs) in
     let one : length (given own) ≡ 1 = ap length (block_given session block end own runs) in
     let first : segment_start (own ++ ys) 0 ≡ 0 = begins_at_once (own ++ ys) (block_begins session block end own ys runs) in
-    let from : segment_start items (length (given xs)) ≡ length xs =
-    ap (segment_start items) (omega arith) ∙ start_behind xs (own ++ ys) 0 ∙ (omega (arith, first)) in
-    let behind_own : segment_start (own ++ ys) 1 ≡ length own =
-    ap (segment_start (own ++ ys)) (omega (arith, one)) ∙ start_behind own ys 0 ∙ (let none = begins_at_once ys h in omega (arith, none)) in
-    let to : segment_start items (length (given xs) + 1) ≡ length xs + length own = start_behind xs (own ++ ys) 1 ∙ ap (λ (n : ℕ). length xs + n) behind_own in
-    ap (λ (n : ℕ). slice_range items n (segment_start items (length (given xs) + 1))) from ∙ ap (slice_range items (length xs)) to
-    ∙ middle xs own ys
-  where
-    middle : (xs own ys : List HistItem) → slice_range (xs ++ (own ++ ys)) (length xs) (length xs + length own) ≡ own
-    middle xs own ys =
-        ap (take (length xs + length own - length xs)) (drop_at xs (own ++ ys) (length xs) refl)
-        ∙ take_at own ys (length xs + length own - length xs) (omega arith)
+    let here : k ≡ k + 0 = omega arith in
+    let none_before : length xs + segment_start (own ++ ys) 0 ≡ length xs = omega (arith, first) in
+    let from : segment_start items k ≡ length xs = ap (segment_start items) here ∙ (start_behind xs (own ++ ys) 0 ∙ none_before) in
+    let its : 1 ≡ length (given own) + 0 = omega (arith, one) in
+    let next = begins_at_once ys h in
+    let none_behind : length own + segment_start ys 0 ≡ length own = omega (arith, next) in
+    let behind_own : segment_start (own ++ ys) 1 ≡ length own = ap (segment_start (own ++ ys)) its ∙ (start_behind own ys 0 ∙ none_behind) in
+    let to : segment_start items (k + 1) ≡ length xs + length own = start_behind xs (own ++ ys) 1 ∙ ap (λ (n : ℕ). length xs + n) behind_own in
+    ap (λ (n : ℕ). slice_range items n (segment_start items (k + 1))) from ∙ (ap (slice_range items (length xs)) to ∙ middle xs own ys)
 
 -- ---- how a block ended
 

@@ -1,7 +1,7 @@
 -- A closed free run whose threads met no fault launches what the free run of its spec launches.
 use Rattle.std.proofs.Common.{◌≡◌, ◌∙◌, refl, sym, ap, subst, ℕ, zero, suc, ◌+◌, ◌-◌, ◌<◌, ◌==◌, inl, inr, Bool, true, false, cond, not, ◌&&◌, ◌||◌, List, [], ◌∷◌, ◌++◌, length, map, take, drop, append_assoc, append-nil, length-append, arith}
-use Rattle.std.specs.Prelude.{Option, Some, None, slice_get, slice_range}
-use Rattle.std.proofs.lemmas.Bool.{and_from, and_parts, eq-eqb, eqb-true}
+use Rattle.std.specs.Prelude.{Option, Some, None, slice_get, slice_range, if◌then◌else◌}
+use Rattle.std.proofs.lemmas.Bool.{and_from, and_parts, eq-eqb, ne_eqb, eqb-true}
 use Rattle.std.proofs.lemmas.List.{take_at, drop_at, length-map}
 use Rattle.session_machine.specs.declared.event.Event.{Event}
 use Rattle.session_machine.specs.declared.event.Event.TheVariants.{Launch, Step, Leave}
@@ -22,7 +22,7 @@ use Rattle.permutation_plans.specs.FreeLaunches.{FreeLaunches, scripts_of}
 use Rattle.permutation_plans.specs.FreeRegular.{given, events_of, launches_in, script_events, AreGiven, between, items_of, ends_each, EachEnds, AreScriptsGiven, IsWhole, IsStopped, IfWell, FitsFrom, FreeFits}
 use Rattle.permutation_plans.proofs.Replied.{AllEndSo, EndsSo, legal_ends}
 use Rattle.spec_files.specs.FreeRuns.{pair_of}
-use Rattle.spec_files.proofs.FreeBlocks.{given_append, is_given, is_step, block_given, Begins, turns_begin, segment_is, ended_reply, well, ill, stopped}
+use Rattle.spec_files.proofs.FreeBlocks.{given_append, is_given, is_step, block_given, Begins, turns_begin, middle, segment_is, ended_reply, well, ill, stopped}
 
 -- ---- the setups
 
@@ -244,16 +244,25 @@ events_are session (i ∷ is) = by (is_order i.event) (session_of i.event == ses
   by false true a b = rw a (rw b (ap (λ (c : Bool). cond c (i.event ∷ given (items_of session is)) (given (items_of session is))) a ∙ sym rest))
   by false false a b = rw a (rw b rest)
 
+none_more : (n : ℕ) → n + 0 ≡ n
+none_more n = omega arith
+
+one_on : (n j : ℕ) → n + suc j ≡ (n + 1) + j
+one_on n j = omega arith
+
 are_given : (events : List Event) (n : ℕ) (scripts : List (List ℕ)) → ((j : ℕ) (blocks : List ℕ) → slice_get scripts j ≡ Some blocks → events_of (n + j) events ≡ script_events (n + j) blocks) → AreGiven events n scripts
 are_given events n [] each = tt
 are_given events n (blocks ∷ scripts) each = (
-  subst (λ (m : ℕ). events_of m events ≡ script_events m blocks) (omega arith) (each 0 blocks refl),
-  are_given events (n + 1) scripts (λ j bs is. subst (λ (m : ℕ). events_of m events ≡ script_events m bs) (omega arith) (each (suc j) bs is)),
+  subst (λ (m : ℕ). events_of m events ≡ script_events m blocks) (none_more n) (each 0 blocks refl),
+  are_given events (n + 1) scripts (λ j bs is. subst (λ (m : ℕ). events_of m events ≡ script_events m bs) (one_on n j) (each (suc j) bs is)),
 )
 
 -- the script of the session of this number, counted from 1
 script_at : (scripts : List (List ℕ)) (j : ℕ) → script_of scripts (1 + j) ≡ slice_get scripts j
-script_at scripts j = refl
+script_at scripts j =
+    let some : ((1 + j) == 0) ≡ false = ne_eqb (1 + j) 0 (λ (none : 1 + j ≡ 0). omega (arith, none)) in
+    let place : (1 + j) - 1 ≡ j = omega arith in
+    ap (λ (b : Bool). if b then None else slice_get scripts ((1 + j) - 1)) some ∙ ap (slice_get scripts) place
 
 there_is : (scripts : List (List ℕ)) (j : ℕ) → j < length scripts → (blocks : List ℕ) × (slice_get scripts j ≡ Some blocks)
 there_is [] j h = absurd (omega (arith, h))
@@ -315,15 +324,11 @@ whole_fits plan l items before_is scripts_are after_is all w =
 
     between_is : between l (given items) ≡ given w.between
     between_is =
+        let last_place : length (given items) - length l.after ≡ first + length (given w.between) = omega (arith, all_long, after_long) in
         ap (λ (n : ℕ). slice_range (given items) n (length (given items) - length l.after)) (sym first_is)
-        ∙ ap (λ (n : ℕ). slice_range (given items) first n) (omega (arith, all_long, after_long))
+        ∙ ap (λ (n : ℕ). slice_range (given items) first n) last_place
         ∙ ap (λ (es : List Event). slice_range es first (first + length (given w.between))) parts
         ∙ middle (given w.before ++ Leave 0 ∷ []) (given w.between) (given w.last)
-      where
-        middle : (xs own ys : List Event) → slice_range (xs ++ (own ++ ys)) (length xs) (length xs + length own) ≡ own
-        middle xs own ys =
-            ap (take (length xs + length own - length xs)) (drop_at xs (own ++ ys) (length xs) refl)
-            ∙ take_at own ys (length xs + length own - length xs) (omega arith)
 
     own_script : (j : ℕ) (blocks : List ℕ) → slice_get l.scripts j ≡ Some blocks → DoesAll (1 + j) (script_events (1 + j) blocks) (items_of (1 + j) w.between)
     own_script j blocks is = w.scripts.own (1 + j) blocks (script_at (scripts_in plan.scripts.items) j ∙ ap (λ (ss : List (List ℕ)). slice_get ss j) scripts_are ∙ is)
@@ -338,7 +343,8 @@ whole_fits plan l items before_is scripts_are after_is all w =
 
     last : drop (length (given items) - length l.after) (given items) ≡ launches_in 0 l.after
     last =
-        ap (λ (n : ℕ). drop n (given items)) (omega (arith, all_long, after_long))
+        let last_place : length (given items) - length l.after ≡ first + length (given w.between) = omega (arith, all_long, after_long) in
+        ap (λ (n : ℕ). drop n (given items)) last_place
         ∙ ap (drop (first + length (given w.between))) (parts ∙ sym (append_assoc (given w.before ++ Leave 0 ∷ []) (given w.between) (given w.last)))
         ∙ drop_at ((given w.before ++ Leave 0 ∷ []) ++ given w.between) (given w.last) (first + length (given w.between)) (length-append (given w.before ++ Leave 0 ∷ []) (given w.between))
         ∙ last_given
@@ -356,8 +362,10 @@ whole_fits plan l items before_is scripts_are after_is all w =
     scripts_end : (session : ℕ) → session < length l.scripts + 1 → ends_each true (items_of session w.between) ≡ true
     scripts_end zero h = ap (ends_each true) w.scripts.control
     scripts_end (suc j) h =
-        let its = there_is l.scripts j (omega (arith, h)) in
-        does_end (1 + j) true (script_events (1 + j) its.0) (items_of (1 + j) w.between) (own_script j its.0 its.1)
+        let there : j < length l.scripts = omega (arith, h) in
+        let its = there_is l.scripts j there in
+        let same : 1 + j ≡ suc j = omega arith in
+        subst (λ (n : ℕ). ends_each true (items_of n w.between) ≡ true) same (does_end (1 + j) true (script_events (1 + j) its.0) (items_of (1 + j) w.between) (own_script j its.0 its.1))
 
     last_ends : (session : ℕ) → ends_each true (items_of session w.last) ≡ true
     last_ends session =
