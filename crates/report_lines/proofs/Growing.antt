@@ -48,10 +48,10 @@ pass_grows c m lines = fold_grows (try_again c m) (try_grows c m) (instances m.j
 
 pub polled_grows : (c : PermutationRun) (m : Moment) (n : ℕ) (lines : List Line) → length lines ≤ length (polled c m n lines)
 polled_grows c m zero lines = omega arith
-polled_grows c m (suc n) lines = by (polls_again c m lines (pass c m lines)) where
-  by : (b : Bool) → length lines ≤ length (if b then polled c m n (pass c m lines) else pass c m lines)
-  by true = let one = pass_grows c m lines in let rest = polled_grows c m n (pass c m lines) in omega (arith, one, rest)
-  by false = pass_grows c m lines
+polled_grows c m (suc n) lines = by (polled_grows c m n (pass c m lines)) (polls_again c m lines (pass c m lines)) where
+  by : length (pass c m lines) ≤ length (polled c m n (pass c m lines)) → (b : Bool) → length lines ≤ length (if b then polled c m n (pass c m lines) else pass c m lines)
+  by rest true = let one = pass_grows c m lines in omega (arith, one, rest)
+  by rest false = pass_grows c m lines
 
 first_of_all : (c : PermutationRun) (m : Moment) (n : ℕ) (lines : List Line) → length (pass c m lines) ≤ length (polled c m (suc n) lines)
 first_of_all c m n lines = by (polls_again c m lines (pass c m lines)) where

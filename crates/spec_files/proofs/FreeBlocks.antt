@@ -62,10 +62,7 @@ block_given session block end (item ∷ items) runs =
 -- behind so many orders the places of orders are those of the rest
 pub start_behind : (xs zs : List HistItem) (j : ℕ) → segment_start (xs ++ zs) (length (given xs) + j) ≡ length xs + segment_start zs j
 start_behind [] zs j = refl
-start_behind (x ∷ xs) zs j = by (is_order x.event) refl where
-  rest : segment_start (xs ++ zs) (length (given xs) + j) ≡ length xs + segment_start zs j
-  rest = start_behind xs zs j
-
+start_behind (x ∷ xs) zs j = by (start_behind xs zs j) (is_order x.event) refl where
   on : ℕ → ℕ
   on k = segment_start (xs ++ zs) k
 
@@ -77,15 +74,15 @@ start_behind (x ∷ xs) zs j = by (is_order x.event) refl where
       let more : on (suc k) + 1 ≡ suc (length xs) + segment_start zs j = omega (arith, so) in
       ap (λ (c : Bool). if c then (on k + 1) else (on (suc k) + 1)) is ∙ more
 
-  by : (b : Bool) → is_order x.event ≡ b → segment_start (x ∷ (xs ++ zs)) (length (given (x ∷ xs)) + j) ≡ suc (length xs) + segment_start zs j
-  by true is =
+  by : on (length (given xs) + j) ≡ length xs + segment_start zs j → (b : Bool) → is_order x.event ≡ b → segment_start (x ∷ (xs ++ zs)) (length (given (x ∷ xs)) + j) ≡ suc (length xs) + segment_start zs j
+  by rest true is =
       let long : length (given (x ∷ xs)) ≡ suc (length (given xs)) = ap length (given_order (is_order x.event) x.event (given xs) is) in
       let count : length (given (x ∷ xs)) + j ≡ suc (length (given xs) + j) = omega (arith, long) in
       let more : on (length (given xs) + j) + 1 ≡ suc (length xs) + segment_start zs j = omega (arith, rest) in
       ap (segment_start (x ∷ (xs ++ zs))) count
       ∙ ap (λ (c : Bool). if c then (on (length (given xs) + j) + 1) else (on (suc (length (given xs) + j)) + 1)) is
       ∙ more
-  by false is =
+  by rest false is =
       let long : length (given (x ∷ xs)) ≡ length (given xs) = ap length (given_none (is_order x.event) x.event (given xs) is) in
       ap (λ (n : ℕ). segment_start (x ∷ (xs ++ zs)) (n + j)) long ∙ skip (length (given xs) + j) is rest
 

@@ -233,16 +233,13 @@ turns_end (s ∷ ss) items session turns =
 -- the events of a session are those of its items
 events_are : (session : ℕ) (items : List HistItem) → events_of session (given items) ≡ given (items_of session items)
 events_are session [] = refl
-events_are session (i ∷ is) = by (is_order i.event) (session_of i.event == session) refl refl where
-  rest : events_of session (given is) ≡ given (items_of session is)
-  rest = events_are session is
-
-  by : (o s : Bool) → is_order i.event ≡ o → (session_of i.event == session) ≡ s
+events_are session (i ∷ is) = by (events_are session is) (is_order i.event) (session_of i.event == session) refl refl where
+  by : events_of session (given is) ≡ given (items_of session is) → (o s : Bool) → is_order i.event ≡ o → (session_of i.event == session) ≡ s
       → events_of session (cond (is_order i.event) (i.event ∷ given is) (given is)) ≡ given (cond (session_of i.event == session) (i ∷ items_of session is) (items_of session is))
-  by true true a b = rw a (rw b (ap (λ (c : Bool). cond c (i.event ∷ given (items_of session is)) (given (items_of session is))) a ∙ ap (λ (w : List Event). i.event ∷ w) (sym rest)))
-  by true false a b = rw a (rw b rest)
-  by false true a b = rw a (rw b (ap (λ (c : Bool). cond c (i.event ∷ given (items_of session is)) (given (items_of session is))) a ∙ sym rest))
-  by false false a b = rw a (rw b rest)
+  by rest true true a b = rw a (rw b (ap (λ (c : Bool). cond c (i.event ∷ given (items_of session is)) (given (items_of session is))) a ∙ ap (λ (w : List Event). i.event ∷ w) (sym rest)))
+  by rest true false a b = rw a (rw b rest)
+  by rest false true a b = rw a (rw b (ap (λ (c : Bool). cond c (i.event ∷ given (items_of session is)) (given (items_of session is))) a ∙ sym rest))
+  by rest false false a b = rw a (rw b rest)
 
 none_more : (n : ℕ) → n + 0 ≡ n
 none_more n = omega arith

@@ -1,5 +1,6 @@
-use Rattle.std.proofs.Common.{◌≡◌, ℕ, ◌≤◌, List, length, refl, sym, ◌∙◌, ap, arith}
+use Rattle.std.proofs.Common.{◌≡◌, ℕ, ◌<◌, ◌≤◌, List, length, refl, sym, ◌∙◌, ap, arith}
 use Rattle.std.specs.List.{fold}
+use Rattle.std.proofs.lemmas.Result.{err_from_is_err_and}
 use Rattle.report_lines.specs.declared.history.Line.{Line}
 use Rattle.report_lines.specs.Report.{active}
 use Rattle.report_lines.specs.SoFar.{LinesSoFar}
@@ -26,7 +27,10 @@ returns-clause-lines c =
     ap (λ (x : List Line). so_far x c.loop-turn.self.launched) lines
     ∙ ap (so_far (fold (chosen_retry c.args.run.now c.args.m c.args.chosen) c.args.self.now.lines (instances c.args.self.now.launched))) c.loop-turn.invariant.launched
 
-pub returns-in_err-try_at-clause-memory : goal.returns-in_err-try_at-clause-memory
-returns-in_err-try_at-clause-memory c =
+pub returns-in_err-place-clause-memory : goal.returns-in_err-place-clause-memory
+returns-in_err-place-clause-memory c =
+    let p = err_from_is_err_and c.from_residual.result c.from_residual.ensures.1 in
     let same = ap length c.loop-turn.invariant.lines in
-    omega (arith, same, c.loop-turn.invariant.grown, c.in_err-try_at.ensures.memory)
+    let adds : length c.args.self.now.lines < length (fold (chosen_retry c.args.run.now c.args.m c.args.chosen) c.args.self.now.lines (instances c.args.self.now.launched)) =
+    omega (arith, same, c.loop-turn.invariant.grown, c.in_err-place.ensures.memory) in
+    rw p.1 adds

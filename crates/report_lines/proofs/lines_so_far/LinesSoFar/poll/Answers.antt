@@ -1,4 +1,5 @@
 use Rattle.std.proofs.Common.{◌≡◌, ◌+◌, ◌∙◌, ap, length, arith}
+use Rattle.std.proofs.lemmas.Result.{err_from_is_err_and}
 use Rattle.report_lines.specs.SoFar.{LinesSoFar}
 use Rattle.report_lines.specs.Inner.Trying.{pass}
 use Rattle.report_lines.proofs.Waits.{polled_on}
@@ -18,5 +19,6 @@ loop-turn-preserved c =
 
 pub returns-in_err-turn-clause-memory : goal.returns-in_err-turn-clause-memory
 returns-in_err-turn-clause-memory c =
-    poll_adds c.args.run.now c.args.m (c.args.m.joined + 1) c.loop-turn._turn c.args.self.now.lines c.loop-turn.self.lines _ c.loop-turn-test.true c.loop-turn.invariant.grown c.loop-turn.invariant.lines
-    c.in_err-turn.ensures.memory
+    let p = err_from_is_err_and c.from_residual.result c.from_residual.ensures.1 in
+    rw p.1 (poll_adds c.args.run.now c.args.m (c.args.m.joined + 1) c.loop-turn._turn c.args.self.now.lines c.loop-turn.self.lines _ c.loop-turn-test.true c.loop-turn.invariant.grown c.loop-turn.invariant.lines
+    c.in_err-turn.ensures.memory)

@@ -1,4 +1,5 @@
 use Rattle.std.proofs.Common.{◌≡◌, ◌<◌, ◌≤◌, ◌&&◌, true, false, Some, slice_get, length, sym, ◌∙◌, ap, arith}
+use Rattle.std.proofs.lemmas.Result.{err_from_is_err_and}
 use Rattle.report_lines.specs.Report.{active}
 use Rattle.report_lines.specs.Walk.{can_report}
 use Rattle.report_lines.specs.SoFar.{LinesSoFar}
@@ -55,4 +56,5 @@ returns-in_err-complete-clause-memory c =
     let so_far = c.args.self.now in
     let at : slice_get (active so_far.lines so_far.launched) c.args.place ≡ Some c.in-Some.entry = sym c.waiting_at.ensures.entry ∙ c.in-Some.is in
     let can : (is_chosen c.args.run.now c.args.m c.args.chosen c.in-Some.entry && can_report c.args.run.now c.args.m so_far.lines c.in-Some.entry) ≡ true = sym c.completes.ensures ∙ c.if-completes.true in
-    try_adds c.args.run.now c.args.m c.args.chosen so_far.lines so_far.launched c.args.place c.in-Some.entry at can
+    let p = err_from_is_err_and c.from_residual.result c.from_residual.ensures.1 in
+    rw p.1 (try_adds c.args.run.now c.args.m c.args.chosen so_far.lines so_far.launched c.args.place c.in-Some.entry at can)
