@@ -35,7 +35,7 @@ use Rattle.session_machine.specs.Walks.{Stop, Walk, Blocked, Fails}
 use Rattle.session_machine.specs.Rows.{Work, columns_in, walk_of}
 use Rattle.session_machine.specs.Running.{fault_in, leads_to, at_once, begin_at, run_in, run_stmt}
 use Rattle.session_machine.specs.Machine.{Machine, Blocks, Next, Run, next, next_for, opening, stmts_of, after_stmt, closed_at_end, is_failed, leaves, session_of}
-use Rattle.session_machine.specs.Inner.Steps.{around, step_from_place, step_stmt}
+use Rattle.session_machine.specs.Inner.Steps.{around as found_around, step_from_place, step_stmt}
 use Rattle.session_machine.specs.Engine.{IsLegal}
 
 -- ---- statements
@@ -96,16 +96,16 @@ once db t columns rows (Selects s) = by (result_of s columns rows) where
   by : (r : Result Results ValueFault) → (let d : Effect = elim r [ Ok set ↦ answers db.content db t (Rows set) | Err fault ↦ fails db t (OfValue fault) ] in StaysIfWaiting d)
   by (Ok set) h = absurd (rows_not set h)
   by (Err fault) h = absurd (failed_not (OfValue fault) h)
-once db t columns rows (Inserts i) h = absurd (done_not h)
-once db t columns rows (Updates u) h = absurd (done_not h)
-once db t columns rows (Deletes d) h = absurd (done_not h)
-once db t columns rows (Begin level) h = absurd (done_not h)
-once db t columns rows Commit h = absurd (done_not h)
-once db t columns rows Rollback h = absurd (done_not h)
-once db t columns rows (SetTransaction level) h = absurd (done_not h)
-once db t columns rows SetDeadlockTimeout h = absurd (done_not h)
-once db t columns rows (Create c) h = absurd (done_not h)
-once db t columns rows (DropTables d) h = absurd (done_not h)
+once db t columns rows (Inserts i) = λ h. absurd (done_not h)
+once db t columns rows (Updates u) = λ h. absurd (done_not h)
+once db t columns rows (Deletes d) = λ h. absurd (done_not h)
+once db t columns rows (Begin level) = λ h. absurd (done_not h)
+once db t columns rows Commit = λ h. absurd (done_not h)
+once db t columns rows Rollback = λ h. absurd (done_not h)
+once db t columns rows (SetTransaction level) = λ h. absurd (done_not h)
+once db t columns rows SetDeadlockTimeout = λ h. absurd (done_not h)
+once db t columns rows (Create c) = λ h. absurd (done_not h)
+once db t columns rows (DropTables d) = λ h. absurd (done_not h)
 
 beginning : (db : Database) (t : OpenTransaction) (around : Surroundings) (name : List ℕ) (stmt : StmtTree) → StaysIfWaiting (begin_at db t around name stmt)
 beginning db t around name stmt = by (find_table db (Some t.tx) name) where
@@ -126,10 +126,10 @@ beginning db t around name stmt = by (find_table db (Some t.tx) name) where
       (walking db (at k) stmt (walk_of (at k) stmt (record { db = db; place = 0; rows = []; stop = None })) _ (once db t (columns_in db (at k)) (rows_shown db.content (at k).view k) stmt))
 
 setting : (db : Database) (t : OpenTransaction) (explicit : Bool) (level : Level) → StaysIfWaiting (level_set db t explicit level)
-setting db t explicit level = either _ (fails db t LevelTooLate) (turns db (Open (record t { explicit = explicit; level = level }))) (failing db t LevelTooLate) (turning db _)
+setting db t explicit level = either _ (fails db t LevelTooLate) (turns db (Open (record t { explicit = explicit; level = level }))) (failing db t LevelTooLate) (turning db (Open (record t { explicit = explicit; level = level })))
 
 dropping : (t : OpenTransaction) (if_exists : Bool) (names : List (List ℕ)) (db : Database) → StaysIfWaiting (drop_tables db t if_exists names)
-dropping t if_exists [] db h = absurd (done_not h)
+dropping t if_exists [] db = λ h. absurd (done_not h)
 dropping t if_exists (name ∷ names) db = by (dropping t if_exists names) (find_table db (Some t.tx) name) where
   by : ((d : Database) → StaysIfWaiting (drop_tables d t if_exists names)) → (o : Option ℕ)
       → StaysIfWaiting (option_map_or (λ k. drop_tables (record db { catalog = record db.catalog { drops = db.catalog.drops ++ record { table = k; by = t.tx } ∷ [] } }) t if_exists names) o
@@ -148,7 +148,7 @@ in_open db t around (Create c) = by (find_table db (Some t.tx) c.name) where
   made = answers db.content (record db { catalog = record db.catalog { tables = db.catalog.tables ++ record { made = c; by = t.tx } ∷ [] } }) t Done
 
   by : (o : Option ℕ) → StaysIfWaiting (option_map_or (λ k. fails db t (TableExists c.name)) o made)
-  by None h = absurd (done_not h)
+  by None = λ h. absurd (done_not h)
   by (Some k) = failing db t (TableExists c.name)
 in_open db t around (DropTables d) = dropping t d.if_exists d.names db
 in_open db t around (Inserts i) = beginning db t around i.table (Inserts i)
@@ -179,15 +179,15 @@ in_closed db statement around (Selects s) = with_new db around (Selects s)
 in_aborted : (db : Database) (statement : Option Progress) (around : Surroundings) (stmt : StmtTree) → StaysIfWaiting (run_stmt db Aborted statement around stmt)
 in_aborted db statement around Commit = turning db Closed
 in_aborted db statement around Rollback = turning db Closed
-in_aborted db statement around SetDeadlockTimeout h = absurd (failed_not AbortedFault h)
-in_aborted db statement around (Begin level) h = absurd (failed_not AbortedFault h)
-in_aborted db statement around (SetTransaction level) h = absurd (failed_not AbortedFault h)
-in_aborted db statement around (Create c) h = absurd (failed_not AbortedFault h)
-in_aborted db statement around (DropTables d) h = absurd (failed_not AbortedFault h)
-in_aborted db statement around (Inserts i) h = absurd (failed_not AbortedFault h)
-in_aborted db statement around (Updates u) h = absurd (failed_not AbortedFault h)
-in_aborted db statement around (Deletes d) h = absurd (failed_not AbortedFault h)
-in_aborted db statement around (Selects s) h = absurd (failed_not AbortedFault h)
+in_aborted db statement around SetDeadlockTimeout = λ h. absurd (failed_not AbortedFault h)
+in_aborted db statement around (Begin level) = λ h. absurd (failed_not AbortedFault h)
+in_aborted db statement around (SetTransaction level) = λ h. absurd (failed_not AbortedFault h)
+in_aborted db statement around (Create c) = λ h. absurd (failed_not AbortedFault h)
+in_aborted db statement around (DropTables d) = λ h. absurd (failed_not AbortedFault h)
+in_aborted db statement around (Inserts i) = λ h. absurd (failed_not AbortedFault h)
+in_aborted db statement around (Updates u) = λ h. absurd (failed_not AbortedFault h)
+in_aborted db statement around (Deletes d) = λ h. absurd (failed_not AbortedFault h)
+in_aborted db statement around (Selects s) = λ h. absurd (failed_not AbortedFault h)
 
 stays : (db : Database) (t : Transaction) (statement : Option Progress) (around : Surroundings) (stmt : StmtTree) → StaysIfWaiting (run_stmt db t statement around stmt)
 stays db (Open t) None around stmt = in_open db t around stmt
@@ -260,7 +260,7 @@ by_event blocks mode m s (Step session) n h = at s.place h where
   by_stmt place (Some stmt) h =
       subst (λ (x : Next). EndsSo (Step session) x.reply)
       (ok_is _ n (ok_else _ StillBlocked _ n (ok_else _ NotYourTurn _ n h)))
-      (at_stmt m session session place (length (stmts_of blocks place.block)) _ (stays m.db s.transaction s.statement (around m session s) stmt))
+      (at_stmt m session session place (length (stmts_of blocks place.block)) _ (stays m.db s.transaction s.statement (found_around m session s) stmt))
 
   at : (o : Option Place) → step_from_place blocks mode m session s o ≡ Ok n → EndsSo (Step session) n.reply
   at None h = absurd (err_not Idle n h)

@@ -1,4 +1,5 @@
 use Rattle.std.proofs.Common.{◌≡◌, ◌↔◌, ◌∙◌, List, IsTrue, ap, subst, inl, inr}
+use Rattle.std.proofs.lemmas.Result.{err_from_is_err_and}
 use Rattle.session_machine.specs.declared.reply.HistItem.{HistItem}
 use Rattle.report_lines.specs.History.{PermutationRun}
 use Rattle.permutation_plans.specs.FreeRegular.{IsWhole, FreeFits}
@@ -18,10 +19,16 @@ returns-clause-fit c =
     (λ yes. rest.1 (whole.0 yes), λ fits. whole.1 (rest.0 fits))
 
 pub returns-in_err-run-clause-memory : goal.returns-in_err-run-clause-memory
-returns-in_err-run-clause-memory c = inl c.in_err-run.ensures.memory
+returns-in_err-run-clause-memory c =
+    let p = err_from_is_err_and c.from_residual.result c.from_residual.ensures.1 in
+    rw p.1 (inl c.in_err-run.ensures.memory)
 
 pub returns-in_err-events-clause-memory : goal.returns-in_err-events-clause-memory
-returns-in_err-events-clause-memory c = inl c.in_err-events.ensures.memory
+returns-in_err-events-clause-memory c =
+    let p = err_from_is_err_and c.from_residual-in_err-events.result c.from_residual-in_err-events.ensures.1 in
+    rw p.1 (inl c.in_err-events.ensures.memory)
 
 pub returns-in_err-whole-in-None-clause-memory : goal.returns-in_err-whole-in-None-clause-memory
-returns-in_err-whole-in-None-clause-memory c = inr c.in_err-whole-in-None.ensures.memory
+returns-in_err-whole-in-None-clause-memory c =
+    let p = err_from_is_err_and c.from_residual-in_err-whole-in-None.result c.from_residual-in_err-whole-in-None.ensures.1 in
+    rw p.1 (inr c.in_err-whole-in-None.ensures.memory)
