@@ -4,3 +4,4 @@ pub mod Waiting
 pub mod Following
 pub mod Whole
 pub mod Next
+pub mod Replied

@@ -21,7 +21,7 @@ use Rattle.report_lines.specs.declared.history.RunState.{RunState}
 use Rattle.report_lines.specs.declared.history.RunState.TheVariants.{Due, Whole, Invalid}
 use Rattle.report_lines.specs.History.{PermutationRun}
 use Rattle.report_lines.specs.Report.{Report, report as told}
-use Rattle.report_lines.specs.Walk.{report}
+use Rattle.report_lines.specs.Walk.{walked}
 use Rattle.report_lines.specs.Starts.{order_of}
 use Rattle.report_lines.specs.Due.{Launches, segment, went_well, is_over, orders, launch, due_setup, teardowns_so_far, due_entry, due}
 use Rattle.report_lines.specs.Inner.Due.{due_last}
@@ -119,7 +119,7 @@ behind_setups setups teardowns state lines h = ap (λ (s : Said). s.ending) (aft
 
 -- ---- setups that are due come first
 
-invalid_first : (c : PermutationRun) (n : ℕ) → length c.entries ≡ n → (report c 0).state ≡ Invalid → ⊥
+invalid_first : (c : PermutationRun) (n : ℕ) → length c.entries ≡ n → (walked c 0).state ≡ Invalid → ⊥
 invalid_first c zero none h = whole_not (sym (ap (λ (r : Report). r.state) (report_none c none)) ∙ h)
   where
     whole_not : ◌≡◌ {A = RunState} Whole Invalid → ⊥
@@ -280,12 +280,12 @@ orders_are spec entries items =
 -- ---- the whole
 
 valid_case : (l : Launches) (entries : List EntryTree) (items : List HistItem) → length l.steps ≡ length entries → (let c = run_of l entries items in let n = orders items in
-    (report c (n - length l.setups)).state ≢ Invalid → due_setup items n 0 l.setups ≡ slice_get (map launch l.setups) n
+    (walked c (n - length l.setups)).state ≢ Invalid → due_setup items n 0 l.setups ≡ slice_get (map launch l.setups) n
     → order_at (map launch l.setups ++ (map launch l.steps ++ with_leaves items (length l.setups + length l.steps) (closing l))) n ≡ due l c n)
 valid_case l entries items same valid first =
     let c = run_of l entries items in
     let n = orders items in
-    let state = (report c (n - length l.setups)).state in
+    let state = (walked c (n - length l.setups)).state in
     let rest = map launch l.steps ++ with_leaves items (length l.setups + length l.steps) (closing l) in
     let place : n - length l.setups ≡ n - length (map launch l.setups) = omega (arith, length_launches l.setups) in
     at_append (map launch l.setups) rest n
@@ -298,15 +298,15 @@ valid_case l entries items same valid first =
     ∙ ap (order_at rest) place))
 
 invalid_at : (l : Launches) (entries : List EntryTree) (items : List HistItem) → (let c = run_of l entries items in let n = orders items in
-    (report c (n - length l.setups)).state ≡ Invalid → (n < length l.setups) ⊎ (length l.setups ≤ n) → slice_get (map launch l.setups) n ≡ None)
+    (walked c (n - length l.setups)).state ≡ Invalid → (n < length l.setups) ⊎ (length l.setups ≤ n) → slice_get (map launch l.setups) n ≡ None)
 invalid_at l entries items is (inl lt) =
     let c = run_of l entries items in
     let none : orders items - length l.setups ≡ 0 = omega (arith, lt) in
-    absurd (invalid_first c (length entries) refl (ap (λ k. (report c k).state) (sym none) ∙ is))
+    absurd (invalid_first c (length entries) refl (ap (λ k. (walked c k).state) (sym none) ∙ is))
 invalid_at l entries items is (inr le) = past l.setups (orders items) le
 
 invalid_case : (l : Launches) (entries : List EntryTree) (items : List HistItem) → (let c = run_of l entries items in let n = orders items in
-    (report c (n - length l.setups)).state ≡ Invalid → due_setup items n 0 l.setups ≡ slice_get (map launch l.setups) n → Stop ≡ due l c n)
+    (walked c (n - length l.setups)).state ≡ Invalid → due_setup items n 0 l.setups ≡ slice_get (map launch l.setups) n → Stop ≡ due l c n)
 invalid_case l entries items is first =
     let n = orders items in
     sym (ap₂ (λ (o : Option Order) (s : RunState). unwrap_or o (due_entry l items n s)) (first ∙ invalid_at l entries items is (cases_lt n (length l.setups))) is)
@@ -325,7 +325,7 @@ whole_valid s h k = whole_not (sym h ∙ k)
 
 well_case : (l : Launches) (entries : List EntryTree) (items : List HistItem) (state : RunState) (lines : List ℕ) (teardowns : Said) → length l.steps ≡ length entries → teardowns.ending ≡ whole
     → (let c = run_of l entries items in let n = orders items in
-    (report c (n - length l.setups)).state ≡ state → due_setup items n 0 l.setups ≡ slice_get (map launch l.setups) n
+    (walked c (n - length l.setups)).state ≡ state → due_setup items n 0 l.setups ≡ slice_get (map launch l.setups) n
     → order_by ((says lines >> state_says state) >> teardowns).ending
     (order_at (map launch l.setups ++ (map launch l.steps ++ with_leaves items (length l.setups + length l.steps) (closing l))) n) ≡ due l c n)
 well_case l entries items (Due e) lines teardowns same ends is first =
@@ -336,22 +336,22 @@ well_case l entries items Invalid lines teardowns same ends is first = invalid_c
 
 stand_next : (l : Launches) (entries : List EntryTree) (items : List HistItem) (lines : List ℕ) (teardowns : Said) → length l.steps ≡ length entries → teardowns.ending ≡ whole
     → Stand items (orders items) 0 l.setups → (let c = run_of l entries items in let n = orders items in
-    order_by (said_so (setups_say items n 0 l.setups) (report c (n - length l.setups)).state lines teardowns).ending
+    order_by (said_so (setups_say items n 0 l.setups) (walked c (n - length l.setups)).state lines teardowns).ending
     (order_at (map launch l.setups ++ (map launch l.steps ++ with_leaves items (length l.setups + length l.steps) (closing l))) n) ≡ due l c n)
 stand_next l entries items lines teardowns same ends (inl p) =
     let n = orders items in
     early_by (setups_say items n 0 l.setups) teardowns _ lines _ p.1
-    ∙ sym (ap (λ (o : Option Order). unwrap_or o (due_entry l items n (report (run_of l entries items) (n - length l.setups)).state)) p.0)
+    ∙ sym (ap (λ (o : Option Order). unwrap_or o (due_entry l items n (walked (run_of l entries items) (n - length l.setups)).state)) p.0)
 stand_next l entries items lines teardowns same ends (inr p) =
     let n = orders items in
     let all : n - 0 ≡ n = omega arith in
     ap (λ (e : Ending). order_by e (order_at (map launch l.setups ++ (map launch l.steps ++ with_leaves items (length l.setups + length l.steps) (closing l))) n))
-    (behind_setups (setups_say items n 0 l.setups) teardowns (report (run_of l entries items) (n - length l.setups)).state lines p.1)
-    ∙ well_case l entries items (report (run_of l entries items) (n - length l.setups)).state lines teardowns same ends refl (p.0 ∙ ap (slice_get (map launch l.setups)) all)
+    (behind_setups (setups_say items n 0 l.setups) teardowns (walked (run_of l entries items) (n - length l.setups)).state lines p.1)
+    ∙ well_case l entries items (walked (run_of l entries items) (n - length l.setups)).state lines teardowns same ends refl (p.0 ∙ ap (slice_get (map launch l.setups)) all)
 
 said_ending : (spec : SpecTree) (entries : List EntryTree) (items : List HistItem) (x : Order) → (let l = launches spec entries in let n = orders items in
     (lines : List ℕ) × (teardowns : Said) × (teardowns.ending ≡ whole)
-    × (order_by (permutation_in_turn spec entries items).ending x ≡ order_by (said_so (setups_say items n 0 l.setups) (report (run_of l entries items) (n - length l.setups)).state lines teardowns).ending x))
+    × (order_by (permutation_in_turn spec entries items).ending x ≡ order_by (said_so (setups_say items n 0 l.setups) (walked (run_of l entries items) (n - length l.setups)).state lines teardowns).ending x))
 unfolding permutation_in_turn
 said_ending spec entries items x =
     let l = launches spec entries in
@@ -359,7 +359,7 @@ said_ending spec entries items x =
     let k = length (setup_numbers spec) in
     let many : k ≡ length l.setups = ap length (setups_number spec) ∙ length-map l.setups session_in in
     let state = (told (permutation_run entries items k) (n - k)).state in
-    let same : state ≡ (report (run_of l entries items) (n - length l.setups)).state =
+    let same : state ≡ (walked (run_of l entries items) (n - length l.setups)).state =
     ap (λ j. (told (permutation_run entries items j) (n - j)).state) many ∙ ap (λ (r : Report). r.state) (report_is (run_of l entries items) (n - length l.setups)) in
     let teardowns = in_turn n (k + length entries) (map (teardown_turn spec.sessions items) (teardown_numbers spec)) in
     let lines = flat_map (line_text spec (permutation_run entries items k)) (told (permutation_run entries items k) (n - k)).lines in (
@@ -377,7 +377,7 @@ next_is spec entries items =
     let ends = said_ending spec entries items x in
     ap (λ (s : Said). order_by s.ending x) (permutation_turn spec entries items)
     ∙ ends.3
-    ∙ ap (λ (os : List Order). order_by (said_so (setups_say items n 0 l.setups) (report (run_of l entries items) (n - length l.setups)).state ends.0 ends.1).ending (order_at os n)) (orders_are spec entries items)
+    ∙ ap (λ (os : List Order). order_by (said_so (setups_say items n 0 l.setups) (walked (run_of l entries items) (n - length l.setups)).state ends.0 ends.1).ending (order_at os n)) (orders_are spec entries items)
     ∙ stand_next l entries items ends.0 ends.1 (length_tasks spec entries) ends.2 (stand items n 0 l.setups)
 
 -- ---- a history that fits

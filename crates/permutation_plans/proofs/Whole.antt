@@ -14,7 +14,7 @@ use Rattle.report_lines.specs.declared.history.RunState.{RunState}
 use Rattle.report_lines.specs.declared.history.RunState.TheVariants.{Due, Whole, Invalid}
 use Rattle.report_lines.specs.History.{PermutationRun}
 use Rattle.report_lines.specs.Report.{Report, moment_of, active}
-use Rattle.report_lines.specs.Walk.{poll, has_unreported, made_way, launched, report_from, report}
+use Rattle.report_lines.specs.Walk.{all_polls, has_unreported, before_launch, after_launch, walked_from, walked}
 use Rattle.report_lines.specs.Due.{Launches, Planned, orders, went_well, is_over, launch, due_setup, teardowns_so_far, due_entry, due}
 use Rattle.report_lines.specs.Inner.Due.{due_last}
 use Rattle.permutation_plans.specs.Launches.{launches, launch_of_entry, due_in}
@@ -189,17 +189,17 @@ entry_state e count n false false way next le lt before_it behind_it rest h =
     let less : count < n = omega arith in
     inl (less, ap Due same)
 
-state_from : (c : PermutationRun) (count n rest e : ℕ) (lines : List Line) → e ≤ count → e + rest ≡ n → (report_from c e rest count lines).state ≢ Invalid → IsStateAt (report_from c e rest count lines).state count n
+state_from : (c : PermutationRun) (count n rest e : ℕ) (lines : List Line) → e ≤ count → e + rest ≡ n → (walked_from c e rest count lines).state ≢ Invalid → IsStateAt (walked_from c e rest count lines).state count n
 state_from c count n zero e lines le all h =
     let many : n ≤ count = omega arith in
-    inr (many, end_state (length (active (poll c (moment_of c e e) lines) e) == 0) h)
+    inr (many, end_state (length (active (all_polls c (moment_of c e e) lines) e) == 0) h)
 state_from c count n (suc rest) e lines le all h =
-    let way = made_way c lines e in
+    let way = before_launch c lines e in
     let less : e < n = omega arith in
-    entry_state e count n (has_unreported c way e) (nat_lt e count) way (report_from c (e + 1) rest count (launched c way e)) le less (ltb-true e count) (ltb-false e count)
-    (λ lt valid. state_from c count n rest (e + 1) (launched c way e) (omega arith) (omega arith) valid) h
+    entry_state e count n (has_unreported c way e) (nat_lt e count) way (walked_from c (e + 1) rest count (after_launch c way e)) le less (ltb-true e count) (ltb-false e count)
+    (λ lt valid. state_from c count n rest (e + 1) (after_launch c way e) (omega arith) (omega arith) valid) h
 
-pub state_at : (c : PermutationRun) (count : ℕ) → (report c count).state ≢ Invalid → IsStateAt (report c count).state count (length c.entries)
+pub state_at : (c : PermutationRun) (count : ℕ) → (walked c count).state ≢ Invalid → IsStateAt (walked c count).state count (length c.entries)
 state_at c count h = state_from c count (length c.entries) (length c.entries) 0 [] (omega arith) (omega arith) h
 
 -- ---- the entries, and what comes behind them
@@ -229,7 +229,7 @@ whole_due p same well =
     let l = p.launches in
     let items = p.run.items in
     let count = orders items in
-    let state = (report p.run (count - length l.setups)).state in
+    let state = (walked p.run (count - length l.setups)).state in
     let rest = map launch l.steps ++ (map launch l.teardowns ++ (leaves 1 l.sessions ++ map launch l.last)) in
     let zero_place : count - 0 ≡ count = omega arith in
     let place : count - length l.setups ≡ count - length (map launch l.setups) = omega (arith, length_launches l.setups) in

@@ -1,5 +1,5 @@
 //! Whether a history launched what the free run of its spec launches.
-ghost use Rattle.std.specs.Prelude.{◌≡◌, ◌≢◌, ◌↔◌, ◌+◌, ◌-◌, ◌<◌, ◌^◌, ◌++◌, [], length, map, drop, slice_get, Some, IsTrue, true, false, IfOk, OnOk, OnErr, MatchOption};
+ghost use Rattle.std.specs.Prelude.{◌≡◌, ◌≢◌, ◌↔◌, ◌⊎◌, ◌+◌, ◌-◌, ◌<◌, ◌^◌, ◌++◌, [], length, map, drop, slice_get, Some, IsTrue, true, false, IfOk, OnOk, OnErr, MatchOption};
 ghost use Rattle.std.specs.Option.{option_map_or};
 ghost use Rattle.spec_parser.specs.Trees.{spec_view};
 ghost use Rattle.permutation_plans.specs.FreeLaunches.{FreeLaunches as Listed, blocks_in, free_launches};
@@ -86,7 +86,7 @@ fn is_given(
 fn are_given(alloc: Global, events: &[Event], scripts: &[Vec<u32>]) -> Result<bool, AllocError>
     requires { length scripts.now < 2 ^ 32 }
     ensures given { IfOk result (λ fit. IsTrue fit ↔ AreGiven events.now 1 (map blocks_in scripts.now)) }
-    ensures memory { OnErr result (scripts.now ≢ []) }
+    ensures memory { OnErr result (map blocks_in scripts.now ≢ []) }
 {
     for (place, blocks) in scripts.iter().enumerate() {
         if !is_given(alloc, events, place as u32 + 1, blocks)? {
@@ -157,7 +157,8 @@ fn ends_with(events: &[Event], after: &[u32]) -> bool
 /// Whether the sessions are given what they are to be given, the control session's setups apart.
 fn scripts_fit(alloc: Global, plan: &FreeLaunches, events: &[Event]) -> Result<bool, AllocError>
     requires { length plan.now.scripts < 2 ^ 32 }
-    ensures { IfOk result (λ fit. IsTrue fit ↔ AreScriptsGiven plan.now events.now) }
+    ensures fit { IfOk result (λ fit. IsTrue fit ↔ AreScriptsGiven plan.now events.now) }
+    ensures memory { OnErr result (plan.now.scripts ≢ []) }
 {
     let middle = between(plan, events);
     let scripts = are_given(alloc, middle, &plan.scripts)?;
@@ -183,7 +184,8 @@ fn is_whole(
 ) -> Result<bool, AllocError>
     requires few { length plan.now.scripts + 1 < 2 ^ 32 }
     requires given { events.now ≡ given items.now }
-    ensures { IfOk result (λ whole. IsTrue whole ↔ IsWhole plan.now items.now) }
+    ensures whole { IfOk result (λ whole. IsTrue whole ↔ IsWhole plan.now items.now) }
+    ensures memory { OnErr result (plan.now.scripts ≢ []) }
 {
     let left = is_at(events, plan.before.len(), Event::Leave { session: 0 });
     let given = scripts_fit(alloc, plan, events)?;
@@ -231,7 +233,8 @@ fn setups_fit(plan: &FreeLaunches, segments: &Segments<'_>, events: &[Event]) ->
 
 fn fits(alloc: Global, plan: &FreeLaunches, items: &[HistItem<'_>]) -> Result<bool, AllocError>
     requires { length plan.now.scripts + 1 < 2 ^ 32 }
-    ensures { IfOk result (λ fit. IsTrue fit ↔ FreeFits plan.now items.now) }
+    ensures fit { IfOk result (λ fit. IsTrue fit ↔ FreeFits plan.now items.now) }
+    ensures memory { OnErr result ((items.now ≢ []) ⊎ (plan.now.scripts ≢ [])) }
 {
     let no_entries = Vec::new(alloc);
     let run = PermutationRun::new(alloc, &no_entries, items, 0)?;

@@ -6,7 +6,7 @@ ghost use Rattle.spec_parser.specs.Numbered.{step_of_entry};
 ghost use Rattle.permutation_plans.specs.Launches.{launch_in, own_launches, launch_of_entry, launches, run_of, due_after};
 ghost use Rattle.report_lines.specs.Progress.{KeepsFront, IsSettled};
 
-use report_lines::{Plan, PlanProgress, PlannedLaunch, Schedule};
+use report_lines::{PlanProgress, PlannedLaunch, PlannedRun, Schedule};
 use session_machine::{HistItem, Order};
 use spec_parser::{Entry, Part, SessionPart, Spec};
 use std::alloc::{AllocError, Global};
@@ -189,5 +189,5 @@ fn order_on<'a>(
         sessions: launches.sessions,
         last: &launches.last,
     };
-    Plan::new(entries, items, &schedule).go_on(alloc, progress)
+    PlannedRun::new(entries, items, &schedule).go_on(alloc, progress)
 }

@@ -1,5 +1,5 @@
 -- A closed run whose launches fit has a history of the spec's free run; what is told of it.
-use Rattle.std.proofs.Common.{◌≡◌, ◌⊎◌, inl, inr, ℕ, length, Result, Ok, Err, IfErr, true, refl, sym, ap, subst, ◌∙◌, true≢false}
+use Rattle.std.proofs.Common.{◌≡◌, ◌≢◌, ℕ, length, Result, Ok, Err, IfErr, true, refl, sym, ap, subst, ◌∙◌, true≢false}
 use Rattle.std.specs.Prelude.{IfOk, IsTrue}
 use Rattle.iso_lexer.specs.declared.device.Sink.{Ghosts as Sink}
 use Rattle.session_machine.specs.declared.event.Mode.{Mode}
@@ -14,7 +14,7 @@ use Rattle.session_threads.specs.Closing.{ClosedOf}
 use Rattle.spec_files.specs.declared.fault.RunFault.{RunFault}
 use Rattle.spec_files.specs.declared.fault.RunFault.TheVariants as faults
 use Rattle.spec_files.specs.Begun.{none}
-use Rattle.spec_files.specs.Runs.{has_ended, is_of_one, is_of_run}
+use Rattle.spec_files.specs.Runs.{has_broken, has_ended, is_of_one, is_of_run}
 use Rattle.spec_files.specs.Runners.{RanFreely}
 use Rattle.spec_files.proofs.Beginning.{free_begun}
 use Rattle.spec_files.proofs.FreeTelling.{free_is_told, free_kind, free_unbroken, free_fails}
@@ -29,21 +29,16 @@ free_regular spec blocks e of legal fits = record {
   fits = fits;
 }
 
--- what is answered of a closed run's history is a fault of a run
-pub regular_kind : {A : Type 0} (r : Result A RunFault) → IfErr r (λ e. (e ≡ faults.ScheduleBroken) ⊎ (e ≡ faults.Memory)) → IfErr r (λ e. is_of_run e ≡ true)
-regular_kind (Ok a) is = tt
-regular_kind (Err e) (inl is) = subst (λ (f : RunFault). is_of_run f ≡ true) (sym is) refl
-regular_kind (Err e) (inr is) = subst (λ (f : RunFault). is_of_run f ≡ true) (sym is) refl
-
 module _ {W N : Type 0} (sink : Sink W) (noted : Sink N) (spec : SpecTree) (blocks : Blocks) (wo wn : W) (eo en : N) where
   -- a run that came to no end was told as its fault
-  fault_told : (e : RunFault) (result : Result (Unit {0}) RunFault) → is_of_run e ≡ true → Tells sink noted spec (Err e) wo wn eo en result → RanFreely sink noted spec blocks wo wn eo en result
-  fault_told e result kind told =
+  fault_told : (e : RunFault) (result : Result (Unit {0}) RunFault) → is_of_run e ≡ true → e ≢ faults.ScheduleBroken → Tells sink noted spec (Err e) wo wn eo en result → RanFreely sink noted spec blocks wo wn eo en result
+  fault_told e result kind whole told =
       let to_err : (P : Result (Unit {0}) RunFault → Type 0) → P result → P (Err e) = λ P. subst P told.0 in
       record {
         told = λ ended. absurd (run_is_unended e kind (to_err (λ r. IsTrue (has_ended r)) ended));
         begun = none (ap sink.put_so_far told.1.0) (ap noted.put_so_far told.1.1);
         broken = λ _. told.1;
+        unbroken = λ is. whole (err_is e faults.ScheduleBroken (sym told.0 ∙ is));
         write = λ is. absurd (run_is_unwritten e kind (err_is e faults.Write (sym told.0 ∙ is)));
         kinds = subst (λ (r : Result (Unit {0}) RunFault). IfErr r (λ e. is_of_one e ≡ true)) (sym told.0) (run_is_one e kind);
       }
@@ -53,9 +48,9 @@ module _ {W N : Type 0} (sink : Sink W) (noted : Sink N) (spec : SpecTree) (bloc
 
   -- a closed run was told by its history
   pub run_told : (run : Result ClosedOf RunFault) (result : Result (Unit {0}) RunFault)
-      → IfOk run (λ c. IsFreeRegular spec blocks c.state.history) → IfErr run (λ e. is_of_run e ≡ true) → Tells sink noted spec run wo wn eo en result → RanFreely sink noted spec blocks wo wn eo en result
-  run_told (Err e) result regular kind told = fault_told e result kind told
-  run_told (Ok closed) result regular kind told =
+      → IfOk run (λ c. IsFreeRegular spec blocks c.state.history) → run ≢ Err faults.ScheduleBroken → IfErr run (λ e. is_of_run e ≡ true) → Tells sink noted spec run wo wn eo en result → RanFreely sink noted spec blocks wo wn eo en result
+  run_told (Err e) result regular whole kind told = fault_told e result kind (λ is. whole (ap (λ (f : RunFault). Err f) is)) told
+  run_told (Ok closed) result regular whole kind told =
       let items = closed.state.history in
       let to = sink.put_so_far wo in
       let tn = sink.put_so_far wn in
@@ -69,6 +64,7 @@ module _ {W N : Type 0} (sink : Sink W) (noted : Sink N) (spec : SpecTree) (bloc
         told = λ ended. free_is_told spec items to tn no nn fo fn go gn result blocks regular told ended;
         begun = free_begun fo fn go gn to tn no nn spec blocks items result regular told;
         broken = λ broken. absurd (true≢false (sym broken ∙ free_unbroken spec items to tn no nn fo fn go gn result told));
+        unbroken = λ is. absurd (true≢false (sym (ap has_broken is) ∙ free_unbroken spec items to tn no nn fo fn go gn result told));
         write = free_fails spec items to tn no nn fo fn go gn result told;
         kinds = free_kind spec items to tn no nn fo fn go gn result told;
       }

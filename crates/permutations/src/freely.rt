@@ -72,7 +72,8 @@ pub fn run_freely<W: Sink, N: Sink, G: Gate, R: Threads + Wait + Sync>(
 /// Reads a spec file and runs it freely: the setups one after the other in the calling thread, then each session's steps and
 /// its teardown in a thread of its own, with no order between sessions, and last the teardown of the file. Then it writes
 /// the text of what happened, which another run of the same file may not repeat; permutation lines count for nothing. The
-/// file is refused as by `run_spec`. Nothing is written before the run is closed; a setup that fails or waits ends it.
+/// file is refused as by `run_spec`. Nothing is written before the run is closed; a setup that fails or waits ends it, and so
+/// do threads that come to no end, in `Threads`; none ends in `ScheduleBroken`.
 pub fn free_spec<S: Source, W: Sink, N: Sink, G: Gate, R: Threads + Wait + Sync>(
     rt: &R,
     alloc: Global,

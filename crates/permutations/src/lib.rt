@@ -11,9 +11,9 @@ mod terminal;
 mod thread_run;
 
 pub use driver::Plan;
-pub use free_run::{free_run_of, regular_run};
+pub use free_run::free_run_of;
 pub use freely::{free_spec, run_freely, tell_run, write_closed};
-pub use permutation_plans::launches_fit;
+pub use permutation_plans::{free_fits, launches_fit};
 pub use program::serve;
 pub use run::run_spec;
 pub use spec_files::{

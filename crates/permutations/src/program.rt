@@ -1,11 +1,11 @@
 //! Runs the program over its devices.
 
-ghost use Rattle.std.specs.Prelude.{◌≡◌, ◌≢◌, ◌≤◌, ◌+◌, ◌||◌, [], Err, IsErrOf, false, length, map, string_bytes, true};
+ghost use Rattle.std.specs.Prelude.{◌≡◌, ◌≢◌, ◌≤◌, ◌+◌, ◌||◌, ℕ, List, [], Option, Err, IsErrOf, false, length, map, string_bytes, true};
 ghost use Rattle.clap.specs.Words.{fault_of};
 ghost use Rattle.iso_lexer.specs.SpecText.{longest_file};
 ghost use Rattle.program_words.specs.Options.{program};
 ghost use Rattle.program_words.specs.Served.{IsServed, RunsFile};
-ghost use Rattle.program_words.specs.Shell.{Runs};
+ghost use Rattle.program_words.specs.Shell.{FileRanFreely, ListsTold, Ran, Runs};
 
 use crate::freely::free_spec;
 use crate::run::run_spec;
@@ -16,6 +16,52 @@ use spec_files::{RunFault, list_spec};
 use std::alloc::Global;
 use std::sync::Wait;
 use std::thread::Threads;
+
+/// Lists the permutations of the file that was read.
+fn list<W: Sink>(alloc: Global, file: &[u8], limit: u64, out: &mut W) -> Result<(), RunFault>
+    requires { length file.now ≤ longest_file + 1 }
+    ensures listed { (notes : Option (List ℕ)) → ListsTold file.now limit (W.put_so_far out.old) (W.put_so_far out.new) notes notes result }
+    ensures read { result ≢ Err RunFault.Read }
+    ensures write { IsErrOf result RunFault.Write → W.failed out.new ≡ true }
+{
+    let mut input = InMemory { rest: file };
+    list_spec(alloc, &mut input, out, limit)
+}
+
+/// Runs the file freely that was read.
+fn run_freely<W: Sink, N: Sink, R: Threads + Wait + Sync>(
+    rt: &R,
+    alloc: Global,
+    file: &[u8],
+    out: &mut W,
+    err: &mut N,
+) -> Result<(), RunFault>
+    requires { length file.now ≤ longest_file + 1 }
+    ensures ran { FileRanFreely file.now (W.put_so_far out.old) (W.put_so_far out.new) (N.put_so_far err.old) (N.put_so_far err.new) result }
+    ensures read { result ≢ Err RunFault.Read }
+    ensures write { IsErrOf result RunFault.Write → (W.failed out.new || N.failed err.new) ≡ true }
+{
+    let mut input = InMemory { rest: file };
+    free_spec(rt, alloc, &mut input, out, err, &OpenGate)
+}
+
+/// Runs the permutations of the file that was read.
+fn run_in_order<W: Sink, N: Sink, R: Threads + Wait + Sync>(
+    rt: &R,
+    alloc: Global,
+    file: &[u8],
+    limit: u64,
+    out: &mut W,
+    err: &mut N,
+) -> Result<(), RunFault>
+    requires { length file.now ≤ longest_file + 1 }
+    ensures ran { Ran file.now limit (W.put_so_far out.old) (W.put_so_far out.new) (N.put_so_far err.old) (N.put_so_far err.new) result }
+    ensures read { result ≢ Err RunFault.Read }
+    ensures write { IsErrOf result RunFault.Write → (W.failed out.new || N.failed err.new) ≡ true }
+{
+    let mut input = InMemory { rest: file };
+    run_spec(rt, alloc, &mut input, out, err, limit, &OpenGate)
+}
 
 /// Runs the file that was read, as the options say.
 fn run<W: Sink, N: Sink, R: Threads + Wait + Sync>(
@@ -31,13 +77,12 @@ fn run<W: Sink, N: Sink, R: Threads + Wait + Sync>(
     ensures read { result ≢ Err RunFault.Read }
     ensures write { IsErrOf result RunFault.Write → (W.failed out.new || N.failed err.new) ≡ true }
 {
-    let mut input = InMemory { rest: file };
     if options.list {
-        list_spec(alloc, &mut input, out, options.limit)
+        list(alloc, file, options.limit, out)
     } else if options.free {
-        free_spec(rt, alloc, &mut input, out, err, &OpenGate)
+        run_freely(rt, alloc, file, out, err)
     } else {
-        run_spec(rt, alloc, &mut input, out, err, options.limit, &OpenGate)
+        run_in_order(rt, alloc, file, options.limit, out, err)
     }
 }
 

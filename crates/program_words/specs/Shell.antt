@@ -72,6 +72,7 @@ pub record FileRanFreely (file : List ℕ) (out_old out_new notes_old notes_new 
   pub untouched : IfErr answer (λ e. is_refusal e ≡ true → (out_new ≡ out_old) × (notes_new ≡ notes_old))
   pub begun : Begun (FileSaysFreely file) out_old out_new notes_old notes_new
   pub broken : IsTrue (has_broken answer) → (out_new ≡ out_old) × (notes_new ≡ notes_old)
+  pub unbroken : answer ≢ Err faults.ScheduleBroken
 
 -- `--list` is looked at before all else, then `--free`, with which the limit counts for nothing
 pub record Runs (o : Options) (file : List ℕ) (out_old out_new notes_old notes_new : Option (List ℕ)) (answer : Result (Unit {0}) RunFault) : Type 0 where

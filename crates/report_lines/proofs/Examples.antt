@@ -16,7 +16,7 @@ use Rattle.report_lines.specs.declared.history.PlannedLaunch.{PlannedLaunch}
 use Rattle.spec_parser.specs.Trees.{EntryTree}
 use Rattle.session_machine.specs.declared.fault.StmtFault.TheVariants.{TooManyValues}
 use Rattle.report_lines.specs.History.{PermutationRun}
-use Rattle.report_lines.specs.Walk.{report}
+use Rattle.report_lines.specs.Walk.{walked}
 
 abbrev begins : ℕ → HistItem
 begins s = record { event = Launch s 0; reply = record { outcome = Launched; ended = false } }
@@ -35,13 +35,13 @@ ten = record {
   setups = 0;
 }
 
-ten_lines : (report ten 2).lines ≡ Waiting 0 ∷ AtOnce 1 4 ∷ Completed 0 4 ∷ []
+ten_lines : (walked ten 2).lines ≡ Waiting 0 ∷ AtOnce 1 4 ∷ Completed 0 4 ∷ []
 ten_lines = refl
 
-ten_ends : (report ten 2).state ≡ Whole
+ten_ends : (walked ten 2).state ≡ Whole
 ten_ends = refl
 
-ten_due : (report ten 1).state ≡ Due 1
+ten_due : (walked ten 1).state ≡ Due 1
 ten_due = refl
 
 -- permutation a y x(y) ac, after a setup
@@ -56,10 +56,10 @@ eleven = record {
   setups = 1;
 }
 
-eleven_lines : (report eleven 4).lines ≡ AtOnce 0 4 ∷ Waiting 1 ∷ Waiting 2 ∷ AtOnce 3 11 ∷ Completed 1 11 ∷ Completed 2 11 ∷ []
+eleven_lines : (walked eleven 4).lines ≡ AtOnce 0 4 ∷ Waiting 1 ∷ Waiting 2 ∷ AtOnce 3 11 ∷ Completed 1 11 ∷ Completed 2 11 ∷ []
 eleven_lines = refl
 
-eleven_ends : (report eleven 4).state ≡ Whole
+eleven_ends : (walked eleven 4).state ≡ Whole
 eleven_ends = refl
 
 -- permutation a b bc ac
@@ -70,10 +70,10 @@ twelve = record {
   setups = 0;
 }
 
-twelve_lines : (report twelve 2).lines ≡ AtOnce 0 2 ∷ Waiting 1 ∷ []
+twelve_lines : (walked twelve 2).lines ≡ AtOnce 0 2 ∷ Waiting 1 ∷ []
 twelve_lines = refl
 
-twelve_ends : (report twelve 2).state ≡ Invalid
+twelve_ends : (walked twelve 2).state ≡ Invalid
 twelve_ends = refl
 
 -- permutation a x(*, y) y ac: x is passed over, y reported, and a second pass reports x
@@ -87,7 +87,7 @@ polls = record {
   setups = 0;
 }
 
-polls_lines : (report polls 4).lines ≡ AtOnce 0 2 ∷ Waiting 1 ∷ Waiting 2 ∷ AtOnce 3 9 ∷ Completed 2 9 ∷ Completed 1 9 ∷ []
+polls_lines : (walked polls 4).lines ≡ AtOnce 0 2 ∷ Waiting 1 ∷ Waiting 2 ∷ AtOnce 3 9 ∷ Completed 2 9 ∷ Completed 1 9 ∷ []
 polls_lines = refl
 
 abbrev launch : ℕ → ℕ → PlannedLaunch
@@ -180,10 +180,10 @@ second_fails_due = refl
 abbrev waits_on : PermutationRun
 waits_on = record { entries = entry 1 0 [] ∷ []; items = begins 1 ∷ does 1 Waits false ∷ []; setups = 0 }
 
-waits_on_lines : (report waits_on 1).lines ≡ Waiting 0 ∷ []
+waits_on_lines : (walked waits_on 1).lines ≡ Waiting 0 ∷ []
 waits_on_lines = refl
 
-waits_on_ends : (report waits_on 1).state ≡ Invalid
+waits_on_ends : (walked waits_on 1).state ≡ Invalid
 waits_on_ends = refl
 
 -- three segments: of three items, of one, and of two

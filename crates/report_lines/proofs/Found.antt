@@ -7,7 +7,7 @@ use Rattle.session_machine.specs.declared.reply.HistItem.{HistItem}
 use Rattle.report_lines.specs.Starts.{segment_start, is_order, ends_in}
 use Rattle.report_lines.specs.Due.{orders}
 use Rattle.report_lines.specs.History.{PermutationRun, seen_before}
-use Rattle.report_lines.specs.Walk.{session_of_entry, has_ended}
+use Rattle.report_lines.specs.Walk.{session_of_entry, block_ended}
 use Rattle.report_lines.specs.Places.{starts_from, last_end, IsTimed}
 use Rattle.report_lines.specs.Inner.Places.{IsFound}
 
@@ -125,7 +125,7 @@ all_behind : (test : HistItem → Bool) (items : List HistItem) (from : ℕ) →
 all_behind test items from = let long = length-drop from items in ap (list_any test) (take_all (length items - from) (drop from items) (omega arith))
 
 -- the kept place tells whether the block has ended
-pub end_found : (c : PermutationRun) (last : List ℕ) (i end : ℕ) → IsTimed c last → true ≡ nat_lt (session_of_entry c i) (length last) → end ≡ get_or last (session_of_entry c i) end → nat_lt (seen_before c i) end ≡ has_ended c (length c.items) i
+pub end_found : (c : PermutationRun) (last : List ℕ) (i end : ℕ) → IsTimed c last → true ≡ nat_lt (session_of_entry c i) (length last) → end ≡ get_or last (session_of_entry c i) end → nat_lt (seen_before c i) end ≡ block_ended c (length c.items) i
 end_found c last i end timed within at =
     let less : session_of_entry c i < length last = grind arith in
     let is : end ≡ last_end (session_of_entry c i) 0 0 c.items = at ∙ get_or_default last (session_of_entry c i) end 0 less ∙ timed.ends_at (session_of_entry c i) less in
@@ -133,5 +133,5 @@ end_found c last i end timed within at =
     ap (nat_lt (seen_before c i)) is ∙ ap (λ k. nat_lt k (last_end (session_of_entry c i) 0 0 c.items)) (sym from) ∙ sym (last_any (session_of_entry c i) 0 0 (seen_before c i) c.items (omega arith)) ∙ sym (all_behind (ends_in (session_of_entry c i)) c.items (seen_before c i))
 
 -- so do the items from the entry's Launch on
-pub end_looked_up : (c : PermutationRun) (i : ℕ) → list_any (ends_in (session_of_entry c i)) (slice_range c.items (seen_before c i) (length c.items)) ≡ has_ended c (length c.items) i
+pub end_looked_up : (c : PermutationRun) (i : ℕ) → list_any (ends_in (session_of_entry c i)) (slice_range c.items (seen_before c i) (length c.items)) ≡ block_ended c (length c.items) i
 end_looked_up c i = refl

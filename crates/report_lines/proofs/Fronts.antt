@@ -14,9 +14,9 @@ use Rattle.session_machine.specs.Machine.{is_failed}
 use Rattle.report_lines.specs.Due.{Launches, orders, segment, is_over, went_well, launch, due_setup, teardowns_so_far, due_entry, due}
 use Rattle.report_lines.specs.Inner.Due.{due_last}
 use Rattle.report_lines.specs.History.{PermutationRun, seen_before}
-use Rattle.report_lines.specs.Walk.{session_of_entry, has_ended, is_awaited, is_star, markers_of}
+use Rattle.report_lines.specs.Walk.{session_of_entry, block_ended, is_awaited, is_star, markers_of}
 use Rattle.report_lines.specs.Report.{Report, active, moment_of}
-use Rattle.report_lines.specs.Walk.{may_report, retry, polls_again, polled, poll, is_of, has_unreported, made_way, launched, report_from, report}
+use Rattle.report_lines.specs.Walk.{can_report, try_again, polls_again, polled, all_polls, is_of, has_unreported, before_launch, after_launch, walked_from, walked}
 use Rattle.report_lines.specs.Inner.Waiting.{is_reported}
 use Rattle.report_lines.specs.Fronts.{with_more}
 use Rattle.report_lines.specs.declared.history.PlannedLaunch.{PlannedLaunch}
@@ -82,18 +82,18 @@ range_stays front rest from to low high =
 -- the moments of these entries, and what has ended at them, are the same in the longer history
 record Stays (c : PermutationRun) (more : List HistItem) (count : ℕ) : Type 0 where
   seen : (e : ℕ) → e ≤ count → seen_before (with_more c more) e ≡ seen_before c e
-  ended : (e i : ℕ) → e ≤ count → i ≤ count → has_ended (with_more c more) (seen_before c e) i ≡ has_ended c (seen_before c e) i
+  ended : (e i : ℕ) → e ≤ count → i ≤ count → block_ended (with_more c more) (seen_before c e) i ≡ block_ended c (seen_before c e) i
 
 -- at this moment the blocks of these entries have ended in both histories or in neither
 abbrev EndAlike : PermutationRun → List HistItem → ℕ → Moment → Type 0
-EndAlike c more count m = (i : ℕ) → i ≤ count → has_ended (with_more c more) m.seen i ≡ has_ended c m.seen i
+EndAlike c more count m = (i : ℕ) → i ≤ count → block_ended (with_more c more) m.seen i ≡ block_ended c m.seen i
 
 -- ---- the tries
 
-may_same : (c : PermutationRun) (more : List HistItem) (count : ℕ) (m : Moment) (lines : List Line) (i : ℕ) → EndAlike c more count m → i ≤ count → may_report (with_more c more) m lines i ≡ may_report c m lines i
+may_same : (c : PermutationRun) (more : List HistItem) (count : ℕ) (m : Moment) (lines : List Line) (i : ℕ) → EndAlike c more count m → i ≤ count → can_report (with_more c more) m lines i ≡ can_report c m lines i
 may_same c more count m lines i same le = ap (λ b. b && not (list_any (is_awaited c i) (active lines m.launched))) (same i le)
 
-retry_same : (c : PermutationRun) (more : List HistItem) (count : ℕ) (m : Moment) (lines : List Line) (i : ℕ) → EndAlike c more count m → i ≤ count → retry (with_more c more) m lines i ≡ retry c m lines i
+retry_same : (c : PermutationRun) (more : List HistItem) (count : ℕ) (m : Moment) (lines : List Line) (i : ℕ) → EndAlike c more count m → i ≤ count → try_again (with_more c more) m lines i ≡ try_again c m lines i
 retry_same c more count m lines i same le = ap (λ b. if not (is_reported lines i) && b then lines ++ Completed i m.seen ∷ [] else lines) (may_same c more count m lines i same le)
 
 own_same : (c : PermutationRun) (more : List HistItem) (count : ℕ) (m : Moment) (session : ℕ) (lines : List Line) (i : ℕ) → EndAlike c more count m → i ≤ count → own_retry (with_more c more) m session lines i ≡ own_retry c m session lines i
@@ -109,14 +109,14 @@ fold_same f g (suc n) lines same =
     ∙ sym (ap (fold g lines) (instances_more n) ∙ fold-append g lines (instances n) (n ∷ []))
 
 own_steps_same : (c : PermutationRun) (more : List HistItem) (count : ℕ) (m : Moment) (session n : ℕ) (lines : List Line) → EndAlike c more count m → n ≤ count
-    → fold (retry (with_more c more) m) lines (filter (is_of c session) (instances n)) ≡ fold (retry c m) lines (filter (is_of c session) (instances n))
+    → fold (try_again (with_more c more) m) lines (filter (is_of c session) (instances n)) ≡ fold (try_again c m) lines (filter (is_of c session) (instances n))
 own_steps_same c more count m session n lines same le =
     sym (own_filter (with_more c more) m session (instances n) lines)
     ∙ fold_same (own_retry (with_more c more) m session) (own_retry c m session) n lines (λ w i less. own_same c more count m session w i same (omega (arith, less, le)))
     ∙ own_filter c m session (instances n) lines
 
 pass_same : (c : PermutationRun) (more : List HistItem) (count : ℕ) (m : Moment) (lines : List Line) → EndAlike c more count m → m.joined ≤ count → pass (with_more c more) m lines ≡ pass c m lines
-pass_same c more count m lines same le = fold_same (retry (with_more c more) m) (retry c m) m.joined lines (λ w i less. retry_same c more count m w i same (omega (arith, less)))
+pass_same c more count m lines same le = fold_same (try_again (with_more c more) m) (try_again c m) m.joined lines (λ w i less. retry_same c more count m w i same (omega (arith, less)))
 
 polled_same : (c : PermutationRun) (more : List HistItem) (count : ℕ) (m : Moment) (counted : ℕ) (lines : List Line) → EndAlike c more count m → m.joined ≤ count → polled (with_more c more) m counted lines ≡ polled c m counted lines
 polled_same c more count m zero lines same le = refl
@@ -124,7 +124,7 @@ polled_same c more count m (suc counted) lines same le =
     ap (λ (new : List Line). if polls_again c m lines new then polled (with_more c more) m counted new else new) (pass_same c more count m lines same le)
     ∙ ap (λ (w : List Line). if polls_again c m lines (pass c m lines) then w else pass c m lines) (polled_same c more count m counted (pass c m lines) same le)
 
-poll_same : (c : PermutationRun) (more : List HistItem) (count : ℕ) (m : Moment) (lines : List Line) → EndAlike c more count m → m.joined ≤ count → poll (with_more c more) m lines ≡ poll c m lines
+poll_same : (c : PermutationRun) (more : List HistItem) (count : ℕ) (m : Moment) (lines : List Line) → EndAlike c more count m → m.joined ≤ count → all_polls (with_more c more) m lines ≡ all_polls c m lines
 poll_same c more count m lines same le = polled_same c more count m (m.joined + 1) lines same le
 
 first_same : (c : PermutationRun) (more : List HistItem) (count : ℕ) (m : Moment) (lines : List Line) (i : ℕ) → EndAlike c more count m → i ≤ count → first_try (with_more c more) m lines i ≡ first_try c m lines i
@@ -138,39 +138,39 @@ before_same c more count e stays le = ap (λ (s : ℕ). record { seen = s; launc
 after_same : (c : PermutationRun) (more : List HistItem) (count e : ℕ) → Stays c more count → e + 1 ≤ count → moment_of (with_more c more) (e + 1) e ≡ moment_of c (e + 1) e
 after_same c more count e stays le = ap (λ (s : ℕ). record { seen = s; launched = e + 1; joined = e }) (stays.seen (e + 1) le)
 
-before_poll : (c : PermutationRun) (more : List HistItem) (count e : ℕ) (lines : List Line) → Stays c more count → e ≤ count → poll (with_more c more) (moment_of (with_more c more) e e) lines ≡ poll c (moment_of c e e) lines
+before_poll : (c : PermutationRun) (more : List HistItem) (count e : ℕ) (lines : List Line) → Stays c more count → e ≤ count → all_polls (with_more c more) (moment_of (with_more c more) e e) lines ≡ all_polls c (moment_of c e e) lines
 before_poll c more count e lines stays le =
-    ap (λ (m : Moment). poll (with_more c more) m lines) (before_same c more count e stays le)
+    ap (λ (m : Moment). all_polls (with_more c more) m lines) (before_same c more count e stays le)
     ∙ poll_same c more count (moment_of c e e) lines (λ i low. stays.ended e i le low) le
 
-way_same : (c : PermutationRun) (more : List HistItem) (count e : ℕ) (lines : List Line) → Stays c more count → e ≤ count → made_way (with_more c more) lines e ≡ made_way c lines e
+way_same : (c : PermutationRun) (more : List HistItem) (count e : ℕ) (lines : List Line) → Stays c more count → e ≤ count → before_launch (with_more c more) lines e ≡ before_launch c lines e
 way_same c more count e lines stays le =
     let same : EndAlike c more count (moment_of c e e) = λ i low. stays.ended e i le low in
-    ap (λ (m : Moment). if has_unreported c lines e then poll (with_more c more) m (fold (retry (with_more c more) m) lines (filter (is_of c (session_of_entry c e)) (instances e))) else lines) (before_same c more count e stays le)
+    ap (λ (m : Moment). if has_unreported c lines e then all_polls (with_more c more) m (fold (try_again (with_more c more) m) lines (filter (is_of c (session_of_entry c e)) (instances e))) else lines) (before_same c more count e stays le)
     ∙ ap (λ (w : List Line). if has_unreported c lines e then w else lines)
-    (poll_same c more count (moment_of c e e) (fold (retry (with_more c more) (moment_of c e e)) lines (filter (is_of c (session_of_entry c e)) (instances e))) same le
-    ∙ ap (poll c (moment_of c e e)) (own_steps_same c more count (moment_of c e e) (session_of_entry c e) e lines same le))
+    (poll_same c more count (moment_of c e e) (fold (try_again (with_more c more) (moment_of c e e)) lines (filter (is_of c (session_of_entry c e)) (instances e))) same le
+    ∙ ap (all_polls c (moment_of c e e)) (own_steps_same c more count (moment_of c e e) (session_of_entry c e) e lines same le))
 
-launched_same : (c : PermutationRun) (more : List HistItem) (count e : ℕ) (lines : List Line) → Stays c more count → e + 1 ≤ count → launched (with_more c more) lines e ≡ launched c lines e
+launched_same : (c : PermutationRun) (more : List HistItem) (count e : ℕ) (lines : List Line) → Stays c more count → e + 1 ≤ count → after_launch (with_more c more) lines e ≡ after_launch c lines e
 launched_same c more count e lines stays le =
     let same : EndAlike c more count (moment_of c (e + 1) e) = λ i low. stays.ended (e + 1) i le low in
-    ap (λ (m : Moment). poll (with_more c more) m (first_try (with_more c more) m lines e)) (after_same c more count e stays le)
+    ap (λ (m : Moment). all_polls (with_more c more) m (first_try (with_more c more) m lines e)) (after_same c more count e stays le)
     ∙ poll_same c more count (moment_of c (e + 1) e) (first_try (with_more c more) (moment_of c (e + 1) e) lines e) same (omega (arith, le))
-    ∙ ap (poll c (moment_of c (e + 1) e)) (first_same c more count (moment_of c (e + 1) e) lines e same (omega (arith, le)))
+    ∙ ap (all_polls c (moment_of c (e + 1) e)) (first_same c more count (moment_of c (e + 1) e) lines e same (omega (arith, le)))
 
 if_same : {A : Type 0} (b : Bool) (x y z : A) → (true ≡ b → x ≡ y) → (if b then x else z) ≡ (if b then y else z)
 if_same true x y z same = same refl
 if_same false x y z same = refl
 
-from_same : (c : PermutationRun) (more : List HistItem) (count e rest : ℕ) (lines : List Line) → Stays c more count → e ≤ count → report_from (with_more c more) e rest count lines ≡ report_from c e rest count lines
+from_same : (c : PermutationRun) (more : List HistItem) (count e rest : ℕ) (lines : List Line) → Stays c more count → e ≤ count → walked_from (with_more c more) e rest count lines ≡ walked_from c e rest count lines
 from_same c more count e zero lines stays le =
     ap (λ (all : List Line). record { lines = all; state = if length (active all e) == 0 then Whole else Invalid }) (before_poll c more count e lines stays le)
 from_same c more count e (suc rest) lines stays le =
-    let way = made_way c lines e in
-    ap (λ (w : List Line). if has_unreported c w e then record { lines = w; state = Invalid } else (if nat_lt e count then report_from (with_more c more) (e + 1) rest count (launched (with_more c more) w e) else record { lines = w; state = Due e })) (way_same c more count e lines stays le)
+    let way = before_launch c lines e in
+    ap (λ (w : List Line). if has_unreported c w e then record { lines = w; state = Invalid } else (if nat_lt e count then walked_from (with_more c more) (e + 1) rest count (after_launch (with_more c more) w e) else record { lines = w; state = Due e })) (way_same c more count e lines stays le)
     ∙ ap (λ (r : Report). if has_unreported c way e then record { lines = way; state = Invalid } else r)
-    (if_same (nat_lt e count) (report_from (with_more c more) (e + 1) rest count (launched (with_more c more) way e)) (report_from c (e + 1) rest count (launched c way e)) (record { lines = way; state = Due e })
-    (λ less. let next : e + 1 ≤ count = grind arith in ap (report_from (with_more c more) (e + 1) rest count) (launched_same c more count e way stays next) ∙ from_same c more count (e + 1) rest (launched c way e) stays next))
+    (if_same (nat_lt e count) (walked_from (with_more c more) (e + 1) rest count (after_launch (with_more c more) way e)) (walked_from c (e + 1) rest count (after_launch c way e)) (record { lines = way; state = Due e })
+    (λ less. let next : e + 1 ≤ count = grind arith in ap (walked_from (with_more c more) (e + 1) rest count) (launched_same c more count e way stays next) ∙ from_same c more count (e + 1) rest (after_launch c way e) stays next))
 
 stays_so : (c : PermutationRun) (item : HistItem) (more : List HistItem) (count : ℕ) → is_order item.event ≡ true → orders c.items ≡ c.setups + count → Stays c (item ∷ more) count
 stays_so c item more count ordered all =
@@ -182,7 +182,7 @@ stays_so c item more count ordered all =
           ∙ ap (list_any (ends_in (session_of_entry c i))) (range_stays c.items (item ∷ more) (seen_before c i) (seen_before c e) (start_within c.items (c.setups + i)) (start_within c.items (c.setups + e)));
     }
 
-pub front_stays : (c : PermutationRun) (item : HistItem) (more : List HistItem) (count : ℕ) → is_order item.event ≡ true → orders c.items ≡ c.setups + count → report (with_more c (item ∷ more)) count ≡ report c count
+pub front_stays : (c : PermutationRun) (item : HistItem) (more : List HistItem) (count : ℕ) → is_order item.event ≡ true → orders c.items ≡ c.setups + count → walked (with_more c (item ∷ more)) count ≡ walked c count
 front_stays c item more count ordered all = from_same c (item ∷ more) count 0 (length c.entries) [] (stays_so c item more count ordered all) (omega arith)
 
 stays_kept : (c : PermutationRun) (more : List HistItem) (count : ℕ) → c.setups + count < orders c.items → Stays c more count
@@ -196,7 +196,7 @@ stays_kept c more count past =
     }
 
 -- what was told before an order that is there stays so, whatever follows
-pub past_stays : (c : PermutationRun) (more : List HistItem) (count : ℕ) → c.setups + count < orders c.items → report (with_more c more) count ≡ report c count
+pub past_stays : (c : PermutationRun) (more : List HistItem) (count : ℕ) → c.setups + count < orders c.items → walked (with_more c more) count ≡ walked c count
 past_stays c more count past = from_same c more count 0 (length c.entries) [] (stays_kept c more count past) (omega arith)
 
 -- ---- the next order
@@ -265,14 +265,14 @@ due_case : (l : Launches) (c : PermutationRun) (item : HistItem) (more : List Hi
 due_case l c item more ordered setups (inr le) =
     let count = orders c.items in
     let split : count ≡ c.setups + (count - length l.setups) = omega (arith, le, setups) in
-    ap (λ (o : Option Order). unwrap_or o (due_entry l (c.items ++ item ∷ more) count (report (with_more c (item ∷ more)) (count - length l.setups)).state)) (setup_stays c.items item more 0 l.setups ordered)
+    ap (λ (o : Option Order). unwrap_or o (due_entry l (c.items ++ item ∷ more) count (walked (with_more c (item ∷ more)) (count - length l.setups)).state)) (setup_stays c.items item more 0 l.setups ordered)
     ∙ ap (λ (r : Report). unwrap_or (due_setup c.items count 0 l.setups) (due_entry l (c.items ++ item ∷ more) count r.state)) (front_stays c item more (count - length l.setups) ordered split)
-    ∙ ap (unwrap_or (due_setup c.items count 0 l.setups)) (entry_stays l c.items item more (report c (count - length l.setups)).state ordered)
+    ∙ ap (unwrap_or (due_setup c.items count 0 l.setups)) (entry_stays l c.items item more (walked c (count - length l.setups)).state ordered)
 due_case l c item more ordered setups (inl less) =
     let count = orders c.items in
-    let other = due_entry l (c.items ++ item ∷ more) count (report (with_more c (item ∷ more)) (count - length l.setups)).state in
+    let other = due_entry l (c.items ++ item ∷ more) count (walked (with_more c (item ∷ more)) (count - length l.setups)).state in
     ap (λ (o : Option Order). unwrap_or o other) (setup_stays c.items item more 0 l.setups ordered)
-    ∙ setups_first c.items count 0 l.setups other (due_entry l c.items count (report c (count - length l.setups)).state) (omega (arith, less)) (omega arith)
+    ∙ setups_first c.items count 0 l.setups other (due_entry l c.items count (walked c (count - length l.setups)).state) (omega (arith, less)) (omega arith)
 
 pub due_stays : (l : Launches) (c : PermutationRun) (item : HistItem) (more : List HistItem) → is_order item.event ≡ true → c.setups ≡ length l.setups → due l (with_more c (item ∷ more)) (orders c.items) ≡ due l c (orders c.items)
 due_stays l c item more ordered setups = due_case l c item more ordered setups (cases_lt (orders c.items) (length l.setups))

@@ -5,7 +5,7 @@ use Rattle.report_lines.specs.declared.history.Line.{Line}
 use Rattle.report_lines.specs.declared.history.RunState.TheVariants.{Due, Whole, Invalid}
 use Rattle.report_lines.specs.History.{PermutationRun}
 use Rattle.report_lines.specs.Report.{moment_of, active}
-use Rattle.report_lines.specs.Walk.{poll, has_unreported, made_way, launched, report_from, report}
+use Rattle.report_lines.specs.Walk.{all_polls, has_unreported, before_launch, after_launch, walked_from, walked}
 use Rattle.report_lines.specs.Tries.{Try, still_active, all_passes, has_active, tries_before, tries_after}
 use Rattle.report_lines.specs.Invalid.{launched_tries, tries_up_to, tries_to_the_end, IsStuck, IsInvalid}
 use Rattle.report_lines.proofs.Tried.{Follows, follows_polled, follows_busy, follows_way, follows_launch, follows_active}
@@ -61,8 +61,8 @@ not_there c count e ts l few less free (inr a) = let reached = a.reached in absu
 
 entry_case : (c : PermutationRun) (count e rest : ℕ) (ts : List Try) (way more : List Line) (busy present : Bool) → IsLaunched c count e ts → e < length c.entries
     → busy ≡ has_active c (tries_before c ts e) e → (present ≡ true → e < count) → (present ≡ false → count ≤ e)
-    → (e < count → busy ≡ false → (report_from c (e + 1) rest count more).state ≡ Invalid ↔ IsInvalid c count)
-    → (if busy then record { lines = way; state = Invalid } else (if present then report_from c (e + 1) rest count more else record { lines = way; state = Due e })).state ≡ Invalid ↔ IsInvalid c count
+    → (e < count → busy ≡ false → (walked_from c (e + 1) rest count more).state ≡ Invalid ↔ IsInvalid c count)
+    → (if busy then record { lines = way; state = Invalid } else (if present then walked_from c (e + 1) rest count more else record { lines = way; state = Due e })).state ≡ Invalid ↔ IsInvalid c count
 entry_case c count e rest ts way more true present l less is before_it behind_it next =
     (λ _. inl (record { entry = e; one = less; reached = l.reached; active = subst (λ (w : List Try). has_active c (tries_before c w e) e ≡ true) l.tries_are (sym is) }), λ _. refl)
 entry_case c count e rest ts way more false true l less is before_it behind_it next = next (before_it refl) refl
@@ -70,23 +70,23 @@ entry_case c count e rest ts way more false false l less is before_it behind_it 
     (λ (h : Due e ≡ Invalid). cc, λ h. absurd (not_there c count e ts l (behind_it refl) less (sym is) h))
 
 invalid_from : (c : PermutationRun) (count rest e : ℕ) (lines : List Line) (ts : List Try) → Follows c e lines ts → IsLaunched c count e ts → e + rest ≡ length c.entries
-    → (report_from c e rest count lines).state ≡ Invalid ↔ IsInvalid c count
+    → (walked_from c e rest count lines).state ≡ Invalid ↔ IsInvalid c count
 invalid_from c count zero e lines ts f l all =
     let m = moment_of c e e in
     let at_end : e ≡ length c.entries = omega arith in
     let polled = follows_polled c m e (m.joined + 1) lines ts (omega arith) (omega arith) f in
     let tries_are : all_passes c m ts ≡ tries_to_the_end c = ap (all_passes c m) l.tries_are ∙ ap (λ (n : ℕ). all_passes c (moment_of c n n) (launched_tries c n)) at_end in
-    let left : active (poll c m lines) e ≡ still_active c (tries_to_the_end c) (length c.entries) =
-    follows_active c e (poll c m lines) (all_passes c m ts) e polled ∙ ap (λ (w : List Try). still_active c w e) tries_are ∙ ap (still_active c (tries_to_the_end c)) at_end in
-    end_case c count e ts (length (active (poll c m lines) e) == 0) l at_end (ap (λ (xs : List ℕ). length xs == 0) left)
+    let left : active (all_polls c m lines) e ≡ still_active c (tries_to_the_end c) (length c.entries) =
+    follows_active c e (all_polls c m lines) (all_passes c m ts) e polled ∙ ap (λ (w : List Try). still_active c w e) tries_are ∙ ap (still_active c (tries_to_the_end c)) at_end in
+    end_case c count e ts (length (active (all_polls c m lines) e) == 0) l at_end (ap (λ (xs : List ℕ). length xs == 0) left)
 invalid_from c count (suc rest) e lines ts f l all =
     let way = follows_way c e lines ts f in
-    let busy = follows_busy c e (made_way c lines e) (tries_before c ts e) way in
-    entry_case c count e rest ts (made_way c lines e) (launched c (made_way c lines e) e) (has_unreported c (made_way c lines e) e) (nat_lt e count) l (omega arith) busy (ltb-true e count) (ltb-false e count)
-    (λ lt free. invalid_from c count rest (e + 1) (launched c (made_way c lines e) e) (tries_after c (tries_before c ts e) e)
-    (follows_launch c e (made_way c lines e) (tries_before c ts e) way) (next_launched c count e ts l lt (sym busy ∙ free)) (omega arith))
+    let busy = follows_busy c e (before_launch c lines e) (tries_before c ts e) way in
+    entry_case c count e rest ts (before_launch c lines e) (after_launch c (before_launch c lines e) e) (has_unreported c (before_launch c lines e) e) (nat_lt e count) l (omega arith) busy (ltb-true e count) (ltb-false e count)
+    (λ lt free. invalid_from c count rest (e + 1) (after_launch c (before_launch c lines e) e) (tries_after c (tries_before c ts e) e)
+    (follows_launch c e (before_launch c lines e) (tries_before c ts e) way) (next_launched c count e ts l lt (sym busy ∙ free)) (omega arith))
 
-pub invalid_is : (c : PermutationRun) (count : ℕ) → (report c count).state ≡ Invalid ↔ IsInvalid c count
+pub invalid_is : (c : PermutationRun) (count : ℕ) → (walked c count).state ≡ Invalid ↔ IsInvalid c count
 invalid_is c count =
     invalid_from c count (length c.entries) 0 [] [] (record { said_is = refl; tried = λ i. ap not (sym (le-ltb i 0 (omega arith))) })
     (record { tries_are = refl; reached = omega arith; free = λ d h. absurd (omega arith) }) (omega arith)

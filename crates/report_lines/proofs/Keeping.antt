@@ -14,7 +14,7 @@ use Rattle.session_machine.specs.Machine.{session_of}
 use Rattle.report_lines.specs.Starts.{is_order, ends_in}
 use Rattle.report_lines.specs.Due.{orders}
 use Rattle.report_lines.specs.History.{PermutationRun}
-use Rattle.report_lines.specs.Walk.{report, report_from, launched}
+use Rattle.report_lines.specs.Walk.{walked, walked_from, after_launch}
 use Rattle.report_lines.specs.SoFar.{LinesSoFar, IsAt, IsReportSoFar}
 use Rattle.report_lines.specs.Places.{starts_from, last_end, IsTimed, IsSeen}
 use Rattle.report_lines.specs.Inner.Places.{ended_behind, ends_after, starts_after}
@@ -73,11 +73,11 @@ is_at_longer c more count launched (Due e) h = h
 is_at_longer c more count launched Whole h = h
 is_at_longer c more count launched Invalid h = h
 
-tells_longer : (c : PermutationRun) (more : List HistItem) (count : ℕ) (t : LinesSoFar) (s : RunState) → report (with_more c more) count ≡ report c count → IsReportSoFar c count t s → IsReportSoFar (with_more c more) count t s
+tells_longer : (c : PermutationRun) (more : List HistItem) (count : ℕ) (t : LinesSoFar) (s : RunState) → walked (with_more c more) count ≡ walked c count → IsReportSoFar c count t s → IsReportSoFar (with_more c more) count t s
 tells_longer c more count t s same h = record { report_is = same ∙ h.report_is; at = is_at_longer c more count t.launched s h.at }
 
 -- before an order
-before_order : (c : PermutationRun) (item : HistItem) (count : ℕ) → is_order item.event ≡ true → count ≡ orders c.items - c.setups → (orders c.items < c.setups) ⊎ (c.setups ≤ orders c.items) → report (with_more c (item ∷ [])) count ≡ report c count
+before_order : (c : PermutationRun) (item : HistItem) (count : ℕ) → is_order item.event ≡ true → count ≡ orders c.items - c.setups → (orders c.items < c.setups) ⊎ (c.setups ≤ orders c.items) → walked (with_more c (item ∷ [])) count ≡ walked c count
 before_order c item count ordered is (inl few) =
     let none : count ≡ 0 = omega (arith, is, few) in
     rw none (first_same (with_more c (item ∷ [])) c refl)
@@ -86,7 +86,7 @@ before_order c item count ordered is (inr enough) =
     front_stays c item [] count ordered all
 
 -- within a segment whose lines are missing
-within_segment : (c : PermutationRun) (item : HistItem) (count : ℕ) → count ≡ orders c.items - (c.setups + 1) → count ≤ orders c.items - c.setups → (c.setups < orders c.items) ⊎ (orders c.items ≤ c.setups) → report (with_more c (item ∷ [])) count ≡ report c count
+within_segment : (c : PermutationRun) (item : HistItem) (count : ℕ) → count ≡ orders c.items - (c.setups + 1) → count ≤ orders c.items - c.setups → (c.setups < orders c.items) ⊎ (orders c.items ≤ c.setups) → walked (with_more c (item ∷ [])) count ≡ walked c count
 within_segment c item count lags low (inl past) = past_stays c (item ∷ []) count (omega (arith, lags, past))
 within_segment c item count lags low (inr few) =
     let none : count ≡ 0 = omega (arith, low, few) in
@@ -163,7 +163,7 @@ seen_more c item starts last place is seen = record {
   timed = subst (λ k. IsTimed (with_more c (item ∷ [])) (ends_after item (k + 1) last)) (sym is) (timed_more c item last seen.timed);
 }
 
-keeps_next : (c : PermutationRun) (item : HistItem) (p q : PlanProgress) → Keeps c p → report (with_more c (item ∷ [])) p.segments_done ≡ report c p.segments_done → p.segments_done ≡ orders (c.items ++ item ∷ []) - (c.setups + 1) → IsNoted item p q → Keeps (with_more c (item ∷ [])) q
+keeps_next : (c : PermutationRun) (item : HistItem) (p q : PlanProgress) → Keeps c p → walked (with_more c (item ∷ [])) p.segments_done ≡ walked c p.segments_done → p.segments_done ≡ orders (c.items ++ item ∷ []) - (c.setups + 1) → IsNoted item p q → Keeps (with_more c (item ∷ [])) q
 keeps_next c item p q kept same lags n =
     let long = length-append c.items (item ∷ []) in
     let at = kept.seen_are in
@@ -193,7 +193,7 @@ order_lags c item count ordered is =
     let one = one_order (is_order item.event) item ordered in
     omega (arith, is, more, one)
 
-order_stays : (c : PermutationRun) (item : HistItem) (count : ℕ) → is_order item.event ≡ true → count ≡ orders c.items - c.setups → report (with_more c (item ∷ [])) count ≡ report c count
+order_stays : (c : PermutationRun) (item : HistItem) (count : ℕ) → is_order item.event ≡ true → count ≡ orders c.items - c.setups → walked (with_more c (item ∷ [])) count ≡ walked c count
 order_stays c item count ordered is = before_order c item count ordered is (cases_lt (orders c.items) c.setups)
 
 -- a Step follows within the last segment
@@ -203,7 +203,7 @@ step_lags c item count step is =
     let none = no_order (is_order item.event) item step in
     omega (arith, is, more, none)
 
-step_stays : (c : PermutationRun) (item : HistItem) (count : ℕ) → count ≡ orders c.items - (c.setups + 1) → count ≤ orders c.items - c.setups → report (with_more c (item ∷ [])) count ≡ report c count
+step_stays : (c : PermutationRun) (item : HistItem) (count : ℕ) → count ≡ orders c.items - (c.setups + 1) → count ≤ orders c.items - c.setups → walked (with_more c (item ∷ [])) count ≡ walked c count
 step_stays c item count is low = within_segment c item count is low (cases_lt c.setups (orders c.items))
 
 -- what is kept once an order has come, and that the lines of its segment are missing
@@ -239,20 +239,20 @@ tells_over c count t Whole reported h = record { report_is = report_over c count
 tells_over c count t Invalid reported h = record { report_is = report_over c count t.lines Invalid refl reported.report_is; at = reported.at }
 
 tells_due : (c : PermutationRun) (count e : ℕ) (t new : LinesSoFar) (next : RunState) → IsReportSoFar c count t (Due e)
-    → report_from c (count + 1) (length c.entries - (count + 1)) (count + 1) (launched c t.lines count) ≡ record { lines = new.lines; state = next } → IsAt c (count + 1) new.launched next → IsReportSoFar c (count + 1) new next
+    → walked_from c (count + 1) (length c.entries - (count + 1)) (count + 1) (after_launch c t.lines count) ≡ record { lines = new.lines; state = next } → IsAt c (count + 1) new.launched next → IsReportSoFar c (count + 1) new next
 tells_due c count e t new next reported h at = record { report_is = report_next c count t.lines e reported.report_is ∙ h; at = at }
 
-pub tells_next : (c : PermutationRun) (count e l : ℕ) (t mid new : LinesSoFar) (s next : RunState) → IsReportSoFar c count t s → s ≡ Due e → mid ≡ record { lines = launched c t.lines t.launched; launched = t.launched + 1 } → l ≡ mid.launched
-    → report_from c l (length c.entries - l) l mid.lines ≡ record { lines = new.lines; state = next } → IsAt c l new.launched next → IsReportSoFar c (count + 1) new next
+pub tells_next : (c : PermutationRun) (count e l : ℕ) (t mid new : LinesSoFar) (s next : RunState) → IsReportSoFar c count t s → s ≡ Due e → mid ≡ record { lines = after_launch c t.lines t.launched; launched = t.launched + 1 } → l ≡ mid.launched
+    → walked_from c l (length c.entries - l) l mid.lines ≡ record { lines = new.lines; state = next } → IsAt c l new.launched next → IsReportSoFar c (count + 1) new next
 tells_next c count e l t mid new s next reported due is at_l h at =
     let so : IsReportSoFar c count t (Due e) = subst (λ (x : RunState). IsReportSoFar c count t x) due reported in
     let first : count ≡ t.launched = so.at.1.0 in
     let counted : mid.launched ≡ t.launched + 1 = ap (λ (x : LinesSoFar). x.launched) is in
     let next_is : l ≡ count + 1 = omega (arith, first, counted, at_l) in
-    let lines : mid.lines ≡ launched c t.lines count = ap (λ (x : LinesSoFar). x.lines) is ∙ ap (launched c t.lines) (sym first) in
+    let lines : mid.lines ≡ after_launch c t.lines count = ap (λ (x : LinesSoFar). x.lines) is ∙ ap (after_launch c t.lines) (sym first) in
     tells_due c count e t new next so
-    (subst (λ k. report_from c k (length c.entries - k) k (launched c t.lines count) ≡ record { lines = new.lines; state = next }) next_is
-    (ap (report_from c l (length c.entries - l) l) (sym lines) ∙ h))
+    (subst (λ k. walked_from c k (length c.entries - k) k (after_launch c t.lines count) ≡ record { lines = new.lines; state = next }) next_is
+    (ap (walked_from c l (length c.entries - l) l) (sym lines) ∙ h))
     (subst (λ k. IsAt c k new.launched next) next_is at)
 
 starts_count : (c : PermutationRun) (p : PlanProgress) → Keeps c p → length p.starts.items ≡ orders c.items
@@ -314,8 +314,8 @@ order_next items k item other within at h =
 pub one_further : (items : List HistItem) (k : ℕ) (item : HistItem) → k < length items → item ≡ get_or items k item → take (k + 1) items ≡ take k items ++ item ∷ []
 one_further items k item less at = take_more items k item less ∙ ap (λ (x : HistItem). take k items ++ x ∷ []) (sym at)
 
-pub settled_tells : (c : PermutationRun) (p : PlanProgress) → IsSettled c p → report c (orders c.items - c.setups) ≡ record { lines = p.so_far.lines; state = p.state }
-settled_tells c p settled = ap (report c) (sym settled.all) ∙ settled.kept.reported.report_is
+pub settled_tells : (c : PermutationRun) (p : PlanProgress) → IsSettled c p → walked c (orders c.items - c.setups) ≡ record { lines = p.so_far.lines; state = p.state }
+settled_tells c p settled = ap (walked c) (sym settled.all) ∙ settled.kept.reported.report_is
 
 -- what is kept of a front is kept of the whole
 pub follows_whole : (c : PermutationRun) (k : ℕ) (p : PlanProgress) → KeepsFront (first_items c k) p → KeepsFront c p

@@ -2,6 +2,7 @@ pub mod Waits
 pub mod Reports
 pub mod Rising
 pub mod Passes
+pub mod Growing
 pub mod Found
 pub mod Polls
 pub mod Tried

@@ -10,7 +10,7 @@ use Rattle.report_lines.specs.declared.lines_so_far.Chosen.{Chosen}
 use Rattle.report_lines.specs.declared.lines_so_far.Chosen.TheVariants.{Joined}
 use Rattle.report_lines.specs.History.{PermutationRun}
 use Rattle.report_lines.specs.Report.{active}
-use Rattle.report_lines.specs.Walk.{may_report, retry}
+use Rattle.report_lines.specs.Walk.{can_report, try_again}
 use Rattle.report_lines.specs.Inner.Waiting.{is_reported}
 use Rattle.report_lines.specs.Inner.Trying.{instances, pass, is_chosen, chosen_retry, retried_from}
 use Rattle.report_lines.proofs.Waits.{active_leave, reported_push}
@@ -39,13 +39,13 @@ when_not true false x y h = refl
 when_not false b x y h = refl
 
 -- a step that can be reported is, at its try
-tried : (c : PermutationRun) (m : Moment) (chosen : Chosen) (lines : List Line) (e : ℕ) → is_reported lines e ≡ false → (is_chosen c m chosen e && may_report c m lines e) ≡ true → chosen_retry c m chosen lines e ≡ lines ++ Completed e m.seen ∷ []
-tried c m chosen lines e waits can = rw waits (when_chosen (is_chosen c m chosen e) (may_report c m lines e) (lines ++ Completed e m.seen ∷ []) lines can)
+tried : (c : PermutationRun) (m : Moment) (chosen : Chosen) (lines : List Line) (e : ℕ) → is_reported lines e ≡ false → (is_chosen c m chosen e && can_report c m lines e) ≡ true → chosen_retry c m chosen lines e ≡ lines ++ Completed e m.seen ∷ []
+tried c m chosen lines e waits can = rw waits (when_chosen (is_chosen c m chosen e) (can_report c m lines e) (lines ++ Completed e m.seen ∷ []) lines can)
 
-passed_over : (c : PermutationRun) (m : Moment) (chosen : Chosen) (lines : List Line) (e : ℕ) → is_reported lines e ≡ false → (is_chosen c m chosen e && may_report c m lines e) ≡ false → chosen_retry c m chosen lines e ≡ lines
-passed_over c m chosen lines e waits cannot = rw waits (when_not (is_chosen c m chosen e) (may_report c m lines e) (lines ++ Completed e m.seen ∷ []) lines cannot)
+passed_over : (c : PermutationRun) (m : Moment) (chosen : Chosen) (lines : List Line) (e : ℕ) → is_reported lines e ≡ false → (is_chosen c m chosen e && can_report c m lines e) ≡ false → chosen_retry c m chosen lines e ≡ lines
+passed_over c m chosen lines e waits cannot = rw waits (when_not (is_chosen c m chosen e) (can_report c m lines e) (lines ++ Completed e m.seen ∷ []) lines cannot)
 
-pub try_reports : (c : PermutationRun) (m : Moment) (chosen : Chosen) (lines : List Line) (n place e : ℕ) → slice_get (active lines n) place ≡ Some e → (is_chosen c m chosen e && may_report c m lines e) ≡ true → retried_from c m chosen (lines ++ Completed e m.seen ∷ []) n place ≡ retried_from c m chosen lines n place
+pub try_reports : (c : PermutationRun) (m : Moment) (chosen : Chosen) (lines : List Line) (n place e : ℕ) → slice_get (active lines n) place ≡ Some e → (is_chosen c m chosen e && can_report c m lines e) ≡ true → retried_from c m chosen (lines ++ Completed e m.seen ∷ []) n place ≡ retried_from c m chosen lines n place
 try_reports c m chosen lines n place e h can =
     let g = chosen_retry c m chosen in
     let now : g lines e ≡ lines ++ Completed e m.seen ∷ [] = tried c m chosen lines e (waits_unreported lines n place e h) can in
@@ -60,7 +60,7 @@ try_fewer lines n place e s h =
     let old = length-drop (place + 1) (active lines n) in
     omega arith
 
-pub try_passes : (c : PermutationRun) (m : Moment) (chosen : Chosen) (lines : List Line) (n place e : ℕ) → slice_get (active lines n) place ≡ Some e → (is_chosen c m chosen e && may_report c m lines e) ≡ false → retried_from c m chosen lines n (place + 1) ≡ retried_from c m chosen lines n place
+pub try_passes : (c : PermutationRun) (m : Moment) (chosen : Chosen) (lines : List Line) (n place e : ℕ) → slice_get (active lines n) place ≡ Some e → (is_chosen c m chosen e && can_report c m lines e) ≡ false → retried_from c m chosen lines n (place + 1) ≡ retried_from c m chosen lines n place
 try_passes c m chosen lines n place e h cannot =
     let g = chosen_retry c m chosen in
     ap (λ (w : List Line). fold g w (drop (place + 1) (active lines n))) (sym (passed_over c m chosen lines e (waits_unreported lines n place e h) cannot))
@@ -77,7 +77,7 @@ reported_case false b lines l i h = h
 
 -- what was reported stays so
 pub retry_keeps : (c : PermutationRun) (m : Moment) (chosen : Chosen) (lines : List Line) (j i : ℕ) → is_reported lines i ≡ true → is_reported (chosen_retry c m chosen lines j) i ≡ true
-retry_keeps c m chosen lines j i h = reported_case (is_chosen c m chosen j) (not (is_reported lines j) && may_report c m lines j) lines (Completed j m.seen) i h
+retry_keeps c m chosen lines j i h = reported_case (is_chosen c m chosen j) (not (is_reported lines j) && can_report c m lines j) lines (Completed j m.seen) i h
 
 skip_case : (g : List Line → ℕ → List Line) (q : ℕ → Bool) (lines : List Line) (x : ℕ) (xs : List ℕ) (b : Bool) → (b ≡ false → g lines x ≡ lines) → fold g (g lines x) xs ≡ fold g (g lines x) (filter q xs) → fold g (g lines x) xs ≡ fold g lines (cond b (x ∷ filter q xs) (filter q xs))
 skip_case g q lines x xs true h e = e
@@ -108,19 +108,19 @@ through_end c m chosen lines n place h = ap (fold (chosen_retry c m chosen) line
 fold_more : (g : List Line → ℕ → List Line) (lines : List Line) (n : ℕ) → fold g lines (instances (suc n)) ≡ g (fold g lines (instances n)) n
 fold_more g lines n = ap (fold g lines) (instances_more n) ∙ fold-append g lines (instances n) (n ∷ [])
 
-joined_all : (c : PermutationRun) (m : Moment) (lines : List Line) (n : ℕ) → n ≤ m.joined → fold (chosen_retry c m Joined) lines (instances n) ≡ fold (retry c m) lines (instances n)
+joined_all : (c : PermutationRun) (m : Moment) (lines : List Line) (n : ℕ) → n ≤ m.joined → fold (chosen_retry c m Joined) lines (instances n) ≡ fold (try_again c m) lines (instances n)
 joined_all c m lines zero h = refl
 joined_all c m lines (suc n) h =
     let less : nat_lt n m.joined ≡ true = grind arith in
     let before = joined_all c m lines n (omega arith) in
     fold_more (chosen_retry c m Joined) lines n
-    ∙ rw less (ap (λ (w : List Line). retry c m w n) before)
-    ∙ sym (fold_more (retry c m) lines n)
+    ∙ rw less (ap (λ (w : List Line). try_again c m w n) before)
+    ∙ sym (fold_more (try_again c m) lines n)
 
 joined_case : (c : PermutationRun) (m : Moment) (lines : List Line) (n : ℕ) → (m.joined ≤ n → fold (chosen_retry c m Joined) lines (instances n) ≡ pass c m lines) → m.joined ≤ suc n → (n < m.joined) ⊎ (m.joined ≤ n) → fold (chosen_retry c m Joined) lines (instances (suc n)) ≡ pass c m lines
 joined_case c m lines n before h (inl lt) =
     let all : suc n ≡ m.joined = omega arith in
-    joined_all c m lines (suc n) (omega arith) ∙ ap (λ k. fold (retry c m) lines (instances k)) all
+    joined_all c m lines (suc n) (omega arith) ∙ ap (λ k. fold (try_again c m) lines (instances k)) all
 joined_case c m lines n before h (inr le) =
     let past : nat_lt n m.joined ≡ false = le-ltb n m.joined le in
     fold_more (chosen_retry c m Joined) lines n ∙ rw past (before le)

@@ -8,7 +8,7 @@ use Rattle.report_lines.specs.declared.history.Line.{Line}
 use Rattle.report_lines.specs.declared.history.Line.TheVariants.{AtOnce, Waiting, Completed}
 use Rattle.report_lines.specs.History.{PermutationRun}
 use Rattle.report_lines.specs.Report.{reports}
-use Rattle.report_lines.specs.Walk.{report}
+use Rattle.report_lines.specs.Walk.{walked}
 use Rattle.report_lines.specs.Tries.{Try, is_untried, was_reported, is_met, says, said, tries, IsReportPoint}
 use Rattle.report_lines.proofs.Tried.{lines_are_said}
 
@@ -58,9 +58,9 @@ at_most_one true = omega arith
 at_most_one false = omega arith
 
 -- no instance is reported twice
-pub reported_once : (c : PermutationRun) (count i : ℕ) → count_by (reports i) (report c count).lines ≤ 1
+pub reported_once : (c : PermutationRun) (count i : ℕ) → count_by (reports i) (walked c count).lines ≤ 1
 reported_once c count i =
-    let counted = sym (length-filter (reports i) (report c count).lines) ∙ ap (times i) (lines_are_said c count) ∙ said_once c i (tries c count) in
+    let counted = sym (length-filter (reports i) (walked c count).lines) ∙ ap (times i) (lines_are_said c count) ∙ said_once c i (tries c count) in
     let most = at_most_one (was_reported c (tries c count) i) in
     omega arith
 
@@ -153,7 +153,7 @@ point_is_said c i line ts p =
     (subst (λ (w : List Try). Contains (said c w) line) (sym p.stands) there, ap (reports i) p.is ∙ reporting)
 
 -- a line of the report reports an instance exactly where it is that of the instance's report point
-pub points_are_least : (c : PermutationRun) (count i : ℕ) (line : Line) → (Contains (report c count).lines line × (reports i line ≡ true)) ↔ IsReportPoint c (tries c count) i line
+pub points_are_least : (c : PermutationRun) (count i : ℕ) (line : Line) → (Contains (walked c count).lines line × (reports i line ≡ true)) ↔ IsReportPoint c (tries c count) i line
 points_are_least c count i line = (
   λ h. found c i line (tries c count) h.1 (subst (λ (w : List Line). Contains w line) (lines_are_said c count) h.0),
   λ p. let h = point_is_said c i line (tries c count) p in (subst (λ (w : List Line). Contains w line) (sym (lines_are_said c count)) h.0, h.1),

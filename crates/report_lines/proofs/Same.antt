@@ -32,7 +32,7 @@ session_is c i = field_is (λ (e : EntryTree). e.session) (slice_get c.entries i
 pub markers_are : (c : PermutationRun) (i : ℕ) → (entry_at c i).markers ≡ markers_of c i
 markers_are c i = field_is (λ (e : EntryTree). e.markers) (slice_get c.entries i) _
 
-pub ended_is : (c : PermutationRun) (seen i : ℕ) → has_ended c seen i ≡ walk.has_ended c seen i
+pub ended_is : (c : PermutationRun) (seen i : ℕ) → has_ended c seen i ≡ walk.block_ended c seen i
 ended_is c seen i = rw (session_is c i) refl
 
 -- ---- markers
@@ -112,57 +112,57 @@ free_case true false s = refl
 free_case false a s = refl
 
 may_is : (c : PermutationRun) (m : Moment) (lines : List Line) (f : Bool) (i : ℕ)
-    → may_report c m lines f i ≡ (walk.may_report c m lines i && not (f && list_any is_star (markers_of c i)))
+    → may_report c m lines f i ≡ (walk.can_report c m lines i && not (f && list_any is_star (markers_of c i)))
 may_is c m lines f i =
     let waiting = active lines m.launched in
     ap (λ b. b && not (list_any (holds c waiting f) (entry_at c i).markers)) (ended_is c m.seen i)
-    ∙ ap (λ (ms : List Marker). walk.has_ended c m.seen i && not (list_any (holds c waiting f) ms)) (markers_are c i)
-    ∙ ap (λ b. walk.has_ended c m.seen i && not b) (held c waiting f (markers_of c i))
-    ∙ free_case (walk.has_ended c m.seen i) (list_any (is_awaited c i) waiting) (f && list_any is_star (markers_of c i))
+    ∙ ap (λ (ms : List Marker). walk.block_ended c m.seen i && not (list_any (holds c waiting f) ms)) (markers_are c i)
+    ∙ ap (λ b. walk.block_ended c m.seen i && not b) (held c waiting f (markers_of c i))
+    ∙ free_case (walk.block_ended c m.seen i) (list_any (is_awaited c i) waiting) (f && list_any is_star (markers_of c i))
 
 and_true : (b : Bool) → (b && true) ≡ b
 and_true true = refl
 and_true false = refl
 
-retry_is : (c : PermutationRun) (m : Moment) (lines : List Line) (i : ℕ) → retry c m lines i ≡ walk.retry c m lines i
+retry_is : (c : PermutationRun) (m : Moment) (lines : List Line) (i : ℕ) → retry c m lines i ≡ walk.try_again c m lines i
 retry_is c m lines i =
-    ap (λ b. if not (is_reported lines i) && b then lines ++ Completed i m.seen ∷ [] else lines) (may_is c m lines false i ∙ and_true (walk.may_report c m lines i))
+    ap (λ b. if not (is_reported lines i) && b then lines ++ Completed i m.seen ∷ [] else lines) (may_is c m lines false i ∙ and_true (walk.can_report c m lines i))
 
 same_fold : (f g : List Line → ℕ → List Line) → ((lines : List Line) (i : ℕ) → f lines i ≡ g lines i) → (lines : List Line) (is : List ℕ) → fold f lines is ≡ fold g lines is
 same_fold f g h lines [] = refl
 same_fold f g h lines (i ∷ is) = ap (λ (w : List Line). fold f w is) (h lines i) ∙ same_fold f g h (g lines i) is
 
-tries_are : (c : PermutationRun) (m : Moment) (lines : List Line) (is : List ℕ) → fold (retry c m) lines is ≡ fold (walk.retry c m) lines is
-tries_are c m = same_fold (retry c m) (walk.retry c m) (retry_is c m)
+tries_are : (c : PermutationRun) (m : Moment) (lines : List Line) (is : List ℕ) → fold (retry c m) lines is ≡ fold (walk.try_again c m) lines is
+tries_are c m = same_fold (retry c m) (walk.try_again c m) (retry_is c m)
 
 -- ---- a pass behind which none is wanted
 
-reports_now : (c : PermutationRun) (m : Moment) (lines : List Line) (j : ℕ) (r : Bool) → is_reported lines j ≡ r → is_marked c j ≡ false → walk.has_ended c m.seen j ≡ true → is_reported (walk.retry c m lines j) j ≡ true
+reports_now : (c : PermutationRun) (m : Moment) (lines : List Line) (j : ℕ) (r : Bool) → is_reported lines j ≡ r → is_marked c j ≡ false → walk.block_ended c m.seen j ≡ true → is_reported (walk.try_again c m lines j) j ≡ true
 reports_now c m lines j true r un ended = keeps_reported c m lines j j r
 reports_now c m lines j false r un ended =
     let itself : (j == j) ≡ true = grind arith in
     rw (r, ended, unmarked c j (active lines m.launched) un) (reported_push lines (Completed j m.seen) j ∙ rw (r, itself) refl)
 
-reported_case : (c : PermutationRun) (m : Moment) (lines : List Line) (a n j : ℕ) → is_marked c j ≡ false → walk.has_ended c m.seen j ≡ true
-    → ((lines : List Line) → a + 1 ≤ j → is_reported (fold (walk.retry c m) lines (range_with_len (a + 1) n)) j ≡ true) → a ≤ j → (a < j) ⊎ (j ≤ a)
-    → is_reported (fold (walk.retry c m) (walk.retry c m lines a) (range_with_len (a + 1) n)) j ≡ true
-reported_case c m lines a n j un ended rest le (inl lt) = rest (walk.retry c m lines a) (omega (arith, lt))
+reported_case : (c : PermutationRun) (m : Moment) (lines : List Line) (a n j : ℕ) → is_marked c j ≡ false → walk.block_ended c m.seen j ≡ true
+    → ((lines : List Line) → a + 1 ≤ j → is_reported (fold (walk.try_again c m) lines (range_with_len (a + 1) n)) j ≡ true) → a ≤ j → (a < j) ⊎ (j ≤ a)
+    → is_reported (fold (walk.try_again c m) (walk.try_again c m lines a) (range_with_len (a + 1) n)) j ≡ true
+reported_case c m lines a n j un ended rest le (inl lt) = rest (walk.try_again c m lines a) (omega (arith, lt))
 reported_case c m lines a n j un ended rest le (inr ge) =
     let same : j ≡ a = omega (arith, le, ge) in
-    fold_keeps c m (range_with_len (a + 1) n) (walk.retry c m lines a) j
-    (ap (λ k. is_reported (walk.retry c m lines k) j) (sym same) ∙ reports_now c m lines j (is_reported lines j) refl un ended)
+    fold_keeps c m (range_with_len (a + 1) n) (walk.try_again c m lines a) j
+    (ap (λ k. is_reported (walk.try_again c m lines k) j) (sym same) ∙ reports_now c m lines j (is_reported lines j) refl un ended)
 
 -- an instance that nothing holds back is reported once it was tried
-reported_then : (c : PermutationRun) (m : Moment) (a n j : ℕ) (lines : List Line) → is_marked c j ≡ false → walk.has_ended c m.seen j ≡ true → a ≤ j → j < a + n
-    → is_reported (fold (walk.retry c m) lines (range_with_len a n)) j ≡ true
+reported_then : (c : PermutationRun) (m : Moment) (a n j : ℕ) (lines : List Line) → is_marked c j ≡ false → walk.block_ended c m.seen j ≡ true → a ≤ j → j < a + n
+    → is_reported (fold (walk.try_again c m) lines (range_with_len a n)) j ≡ true
 reported_then c m a zero j lines un ended le lt = absurd (omega (arith, le, lt))
 reported_then c m a (suc n) j lines un ended le lt =
     reported_case c m lines a n j un ended (λ w more. reported_then c m (a + 1) n j w un ended more (omega (arith, lt))) le (cases_lt a j)
 
-still : (c : PermutationRun) (m : Moment) (a n : ℕ) (lines : List Line) → ((j : ℕ) → a ≤ j → j < a + n → walk.retry c m lines j ≡ lines) → fold (walk.retry c m) lines (range_with_len a n) ≡ lines
+still : (c : PermutationRun) (m : Moment) (a n : ℕ) (lines : List Line) → ((j : ℕ) → a ≤ j → j < a + n → walk.try_again c m lines j ≡ lines) → fold (walk.try_again c m) lines (range_with_len a n) ≡ lines
 still c m a zero lines h = refl
 still c m a (suc n) lines h =
-    ap (λ (w : List Line). fold (walk.retry c m) w (range_with_len (a + 1) n)) (h a (omega arith) (omega arith))
+    ap (λ (w : List Line). fold (walk.try_again c m) w (range_with_len (a + 1) n)) (h a (omega arith) (omega arith))
     ∙ still c m (a + 1) n lines (λ j le lt. h j (omega (arith, le)) (omega (arith, lt)))
 
 kept_or : (p : ℕ → Bool) (x : ℕ) (xs : List ℕ) (b : Bool) → list_any p xs ≡ true → list_any p (cond b (x ∷ xs) xs) ≡ true
@@ -187,7 +187,7 @@ not_both b h k = cc
 
 waiting_case : (c : PermutationRun) (m : Moment) (lines : List Line) (j : ℕ) (r k h : Bool) → (let new = pass c m lines in
     j < m.joined → m.joined ≤ m.launched → list_any (λ j. nat_lt j m.joined && is_marked c j) (active new m.launched) ≡ false
-    → is_reported new j ≡ r → is_marked c j ≡ k → walk.has_ended c m.seen j ≡ h → walk.retry c m new j ≡ new)
+    → is_reported new j ≡ r → is_marked c j ≡ k → walk.block_ended c m.seen j ≡ h → walk.try_again c m new j ≡ new)
 waiting_case c m lines j true k h lt le none r mark ended = over_reported c m (pass c m lines) j r
 waiting_case c m lines j false true h lt le none r mark ended =
     let new = pass c m lines in
@@ -227,7 +227,7 @@ passes_are c m le a zero lines = refl
 passes_are c m le a (suc n) lines =
     passes_case c m (pass c m lines) n (range_with_len (a + 1) n) (polls_again c m lines (pass c m lines)) (settled c m lines le) (passes_are c m le (a + 1) n (pass c m lines))
 
-pub poll_is : (c : PermutationRun) (m : Moment) (lines : List Line) → m.joined ≤ m.launched → poll c m lines ≡ walk.poll c m lines
+pub poll_is : (c : PermutationRun) (m : Moment) (lines : List Line) → m.joined ≤ m.launched → poll c m lines ≡ walk.all_polls c m lines
 poll_is c m lines le =
     same_fold (λ told turn. fold (retry c m) told (instances m.joined)) (λ told turn. pass c m told) (λ told turn. tries_are c m told (instances m.joined)) lines (range_with_len 0 (m.joined + 1))
     ∙ passes_are c m le 0 (m.joined + 1) lines
@@ -253,38 +253,38 @@ way_case : (b : Bool) (x y z : List Line) → y ≡ z → (if not b then x else 
 way_case true x y z h = h
 way_case false x y z h = refl
 
-way_is : (c : PermutationRun) (lines : List Line) (e : ℕ) → made_way c lines e ≡ walk.made_way c lines e
+way_is : (c : PermutationRun) (lines : List Line) (e : ℕ) → made_way c lines e ≡ walk.before_launch c lines e
 way_is c lines e =
     let m = moment_of c e e in
     let own = filter (is_of c (session_of_entry c e)) (instances e) in
-    let tried : fold (retry c m) lines (rivals c lines e) ≡ fold (walk.retry c m) lines own =
-    tries_are c m lines (rivals c lines e) ∙ ap (fold (walk.retry c m) lines) (same_rivals c lines e) ∙ sym (own_waiting c m (session_of_entry c e) e lines) in
+    let tried : fold (retry c m) lines (rivals c lines e) ≡ fold (walk.try_again c m) lines own =
+    tries_are c m lines (rivals c lines e) ∙ ap (fold (walk.try_again c m) lines) (same_rivals c lines e) ∙ sym (own_waiting c m (session_of_entry c e) e lines) in
     ap (λ b. if b then lines else poll c m (fold (retry c m) lines (rivals c lines e))) (no_rivals c lines e)
-    ∙ way_case (has_unreported c lines e) lines (poll c m (fold (retry c m) lines (rivals c lines e))) (walk.poll c m (fold (walk.retry c m) lines own))
-    (ap (poll c m) tried ∙ poll_is c m (fold (walk.retry c m) lines own) (omega arith))
+    ∙ way_case (has_unreported c lines e) lines (poll c m (fold (retry c m) lines (rivals c lines e))) (walk.all_polls c m (fold (walk.try_again c m) lines own))
+    (ap (poll c m) tried ∙ poll_is c m (fold (walk.try_again c m) lines own) (omega arith))
 
-launched_is : (c : PermutationRun) (lines : List Line) (e : ℕ) → launched c lines e ≡ walk.launched c lines e
+launched_is : (c : PermutationRun) (lines : List Line) (e : ℕ) → launched c lines e ≡ walk.after_launch c lines e
 launched_is c lines e =
     let m = moment_of c (e + 1) e in
     ap (λ b. poll c m (lines ++ (if b then AtOnce e m.seen else Waiting e) ∷ [])) (may_is c m lines true e)
-    ∙ poll_is c m (lines ++ (if walk.may_report c m lines e && not (list_any is_star (markers_of c e)) then AtOnce e m.seen else Waiting e) ∷ []) (omega arith)
+    ∙ poll_is c m (lines ++ (if walk.can_report c m lines e && not (list_any is_star (markers_of c e)) then AtOnce e m.seen else Waiting e) ∷ []) (omega arith)
 
 not_not : (b : Bool) → not (not b) ≡ b
 not_not true = refl
 not_not false = refl
 
-from_is : (c : PermutationRun) (rest e count : ℕ) (lines : List Line) → report_from c e rest count lines ≡ walk.report_from c e rest count lines
+from_is : (c : PermutationRun) (rest e count : ℕ) (lines : List Line) → report_from c e rest count lines ≡ walk.walked_from c e rest count lines
 from_is c zero e count lines =
     ap (λ (all : List Line). let r : Report = record { lines = all; state = if length (active all e) == 0 then Whole else Invalid } in r) (poll_is c (moment_of c e e) lines (omega arith))
 from_is c (suc rest) e count lines =
-    let way = walk.made_way c lines e in
+    let way = walk.before_launch c lines e in
     let busy : (not (length (rivals c way e) == 0)) ≡ has_unreported c way e = ap not (no_rivals c way e) ∙ not_not (has_unreported c way e) in
     ap (λ (w : List Line). let r : Report = if not (length (rivals c w e) == 0) then record { lines = w; state = Invalid }
     else if nat_lt e count then report_from c (e + 1) rest count (launched c w e) else record { lines = w; state = Due e } in r) (way_is c lines e)
     ∙ ap (λ b. let r : Report = if b then record { lines = way; state = Invalid }
     else if nat_lt e count then report_from c (e + 1) rest count (launched c way e) else record { lines = way; state = Due e } in r) busy
     ∙ ap (λ (next : Report). let r : Report = if has_unreported c way e then record { lines = way; state = Invalid } else if nat_lt e count then next else record { lines = way; state = Due e } in r)
-    (ap (report_from c (e + 1) rest count) (launched_is c way e) ∙ from_is c rest (e + 1) count (walk.launched c way e))
+    (ap (report_from c (e + 1) rest count) (launched_is c way e) ∙ from_is c rest (e + 1) count (walk.after_launch c way e))
 
-pub report_is : (c : PermutationRun) (count : ℕ) → report c count ≡ walk.report c count
+pub report_is : (c : PermutationRun) (count : ℕ) → report c count ≡ walk.walked c count
 report_is c count = from_is c (length c.entries) 0 count []

@@ -11,9 +11,9 @@ use Rattle.report_lines.specs.declared.history.Line.TheVariants.{AtOnce, Waiting
 use Rattle.report_lines.specs.declared.history.Moment.{Moment}
 use Rattle.report_lines.specs.declared.history.RunState.TheVariants.{Due, Invalid}
 use Rattle.report_lines.specs.History.{PermutationRun}
-use Rattle.report_lines.specs.Walk.{session_of_entry, has_ended, is_awaited, is_star, markers_of}
+use Rattle.report_lines.specs.Walk.{session_of_entry, block_ended, is_awaited, is_star, markers_of}
 use Rattle.report_lines.specs.Report.{reports, active, moment_of}
-use Rattle.report_lines.specs.Walk.{retry, polls_again, polled, poll, is_of, has_unreported, made_way, launched, report_from, report}
+use Rattle.report_lines.specs.Walk.{try_again, polls_again, polled, all_polls, is_of, has_unreported, before_launch, after_launch, walked_from, walked}
 use Rattle.report_lines.specs.Inner.Waiting.{is_reported}
 use Rattle.report_lines.specs.Inner.Trying.{is_marked, instances, first_try, pass}
 use Rattle.report_lines.specs.Tries.{Try, is_try_of, is_untried, was_reported, still_active, is_met, says, said, try_each, gone_through, wants_another, passes, all_passes, has_active, tries_before, tries_after, tries_from, tries}
@@ -52,10 +52,10 @@ retry_case false true true starred lines l = sym (append-nil lines)
 retry_case false true false starred lines l = refl
 retry_case false false held starred lines l = sym (append-nil lines)
 
-says_retry : (c : PermutationRun) (m : Moment) (ts : List Try) (i : ℕ) → is_untried ts i ≡ false → retry c m (said c ts) i ≡ said c (record { entry = i; moment = m } ∷ ts)
+says_retry : (c : PermutationRun) (m : Moment) (ts : List Try) (i : ℕ) → is_untried ts i ≡ false → try_again c m (said c ts) i ≡ said c (record { entry = i; moment = m } ∷ ts)
 says_retry c m ts i again =
     rw (again, said_reports c ts i, said_active c ts m.launched)
-    (retry_case (was_reported c ts i) (has_ended c m.seen i) (list_any (is_awaited c i) (still_active c ts m.launched)) (list_any is_star (markers_of c i)) (said c ts) (Completed i m.seen))
+    (retry_case (was_reported c ts i) (block_ended c m.seen i) (list_any (is_awaited c i) (still_active c ts m.launched)) (list_any is_star (markers_of c i)) (said c ts) (Completed i m.seen))
 
 first_case : (ended held starred : Bool) (lines : List Line) (l k : Line) → lines ++ (if (ended && not held) && not starred then l else k) ∷ [] ≡ lines ++ (if ended && not held && not (true && starred) then l ∷ [] else k ∷ [])
 first_case true true starred lines l k = refl
@@ -66,7 +66,7 @@ first_case false held starred lines l k = refl
 says_first : (c : PermutationRun) (m : Moment) (ts : List Try) (i : ℕ) → is_untried ts i ≡ true → was_reported c ts i ≡ false → first_try c m (said c ts) i ≡ said c (record { entry = i; moment = m } ∷ ts)
 says_first c m ts i new fresh =
     rw (new, fresh, said_active c ts m.launched)
-    (first_case (has_ended c m.seen i) (list_any (is_awaited c i) (still_active c ts m.launched)) (list_any is_star (markers_of c i)) (said c ts) (AtOnce i m.seen) (Waiting i))
+    (first_case (block_ended c m.seen i) (list_any (is_awaited c i) (still_active c ts m.launched)) (list_any is_star (markers_of c i)) (said c ts) (AtOnce i m.seen) (Waiting i))
 
 untried_case : (b tried w r : Bool) → not (b || tried) ≡ true → (not tried ≡ true → w ≡ false) → (w || (b && r)) ≡ false
 untried_case true tried w r h rest = cc
@@ -88,17 +88,17 @@ tried_case i j n false tried less h = h
 tried_again : (ts : List Try) (m : Moment) (i n : ℕ) → i < n → ((j : ℕ) → is_untried ts j ≡ not (nat_lt j n)) → (j : ℕ) → is_untried (record { entry = i; moment = m } ∷ ts) j ≡ not (nat_lt j n)
 tried_again ts m i n less h j = tried_case i j n (j == i) (list_any (is_try_of j) ts) (λ is. let same = eqb-true j i is in omega arith) (h j)
 
-follows_retry : (c : PermutationRun) (m : Moment) (n : ℕ) (lines : List Line) (ts : List Try) (i : ℕ) → i < n → Follows c n lines ts → Follows c n (retry c m lines i) (record { entry = i; moment = m } ∷ ts)
+follows_retry : (c : PermutationRun) (m : Moment) (n : ℕ) (lines : List Line) (ts : List Try) (i : ℕ) → i < n → Follows c n lines ts → Follows c n (try_again c m lines i) (record { entry = i; moment = m } ∷ ts)
 follows_retry c m n lines ts i less f = record {
-  said_is = ap (λ (w : List Line). retry c m w i) f.said_is ∙ says_retry c m ts i (f.tried i ∙ ap not (lt-ltb i n less));
+  said_is = ap (λ (w : List Line). try_again c m w i) f.said_is ∙ says_retry c m ts i (f.tried i ∙ ap not (lt-ltb i n less));
   tried = tried_again ts m i n less f.tried;
 }
 
-follows_each : (c : PermutationRun) (m : Moment) (n low high : ℕ) (xs : List ℕ) (lines : List Line) (ts : List Try) → Between low high xs → high ≤ n → Follows c n lines ts → Follows c n (fold (retry c m) lines xs) (try_each m ts xs)
+follows_each : (c : PermutationRun) (m : Moment) (n low high : ℕ) (xs : List ℕ) (lines : List Line) (ts : List Try) → Between low high xs → high ≤ n → Follows c n lines ts → Follows c n (fold (try_again c m) lines xs) (try_each m ts xs)
 follows_each c m n low high [] lines ts h le f = f
 follows_each c m n low high (x ∷ xs) lines ts h le f =
     let room = between_length (x + 1) high xs h.1 in
-    follows_each c m n (x + 1) high xs (retry c m lines x) (record { entry = x; moment = m } ∷ ts) h.1 le (follows_retry c m n lines ts x (omega arith) f)
+    follows_each c m n (x + 1) high xs (try_again c m lines x) (record { entry = x; moment = m } ∷ ts) h.1 le (follows_retry c m n lines ts x (omega arith) f)
 
 pub follows_active : (c : PermutationRun) (n : ℕ) (lines : List Line) (ts : List Try) (k : ℕ) → Follows c n lines ts → active lines k ≡ still_active c ts k
 follows_active c n lines ts k f = ap (λ (w : List Line). active w k) f.said_is ∙ said_active c ts k
@@ -170,7 +170,7 @@ follows_polled c m n (suc k) lines ts le few f =
 pub follows_busy : (c : PermutationRun) (e : ℕ) (lines : List Line) (ts : List Try) → Follows c e lines ts → has_unreported c lines e ≡ has_active c ts e
 follows_busy c e lines ts f = ap (list_any (is_of c (session_of_entry c e))) (follows_active c e lines ts e f)
 
-follows_own : (c : PermutationRun) (m : Moment) (s e : ℕ) (lines : List Line) (ts : List Try) → Follows c e lines ts → Follows c e (fold (retry c m) lines (filter (is_of c s) (instances e))) (try_each m ts (filter (is_of c s) (still_active c ts e)))
+follows_own : (c : PermutationRun) (m : Moment) (s e : ℕ) (lines : List Line) (ts : List Try) → Follows c e lines ts → Follows c e (fold (try_again c m) lines (filter (is_of c s) (instances e))) (try_each m ts (filter (is_of c s) (still_active c ts e)))
 follows_own c m s e lines ts f =
     rw (own_waiting c m s e lines, follows_active c e lines ts e f)
     (follows_each c m e 0 e (filter (is_of c s) (still_active c ts e)) lines ts (between_filter (is_of c s) 0 e (still_active c ts e) (rises c ts e)) (omega arith) f)
@@ -179,12 +179,12 @@ way_case : (c : PermutationRun) (e : ℕ) (lines tried : List Line) (ts tried_ts
 way_case c e lines tried ts tried_ts a true is busy free = rw is busy
 way_case c e lines tried ts tried_ts a false is busy free = rw is free
 
-pub follows_way : (c : PermutationRun) (e : ℕ) (lines : List Line) (ts : List Try) → Follows c e lines ts → Follows c e (made_way c lines e) (tries_before c ts e)
+pub follows_way : (c : PermutationRun) (e : ℕ) (lines : List Line) (ts : List Try) → Follows c e lines ts → Follows c e (before_launch c lines e) (tries_before c ts e)
 follows_way c e lines ts f =
     let m = moment_of c e e in
     let s = session_of_entry c e in
-    way_case c e lines (poll c m (fold (retry c m) lines (filter (is_of c s) (instances e)))) ts (all_passes c m (try_each m ts (filter (is_of c s) (still_active c ts e)))) (has_unreported c lines e) (has_active c ts e) (follows_busy c e lines ts f)
-    (follows_polled c m e (m.joined + 1) (fold (retry c m) lines (filter (is_of c s) (instances e))) (try_each m ts (filter (is_of c s) (still_active c ts e))) (omega arith) (omega arith) (follows_own c m s e lines ts f))
+    way_case c e lines (all_polls c m (fold (try_again c m) lines (filter (is_of c s) (instances e)))) ts (all_passes c m (try_each m ts (filter (is_of c s) (still_active c ts e)))) (has_unreported c lines e) (has_active c ts e) (follows_busy c e lines ts f)
+    (follows_polled c m e (m.joined + 1) (fold (try_again c m) lines (filter (is_of c s) (instances e))) (try_each m ts (filter (is_of c s) (still_active c ts e))) (omega arith) (omega arith) (follows_own c m s e lines ts f))
     f
 
 not_same : (j e : ℕ) → (j ≡ e → ⊥) → e ≤ j → (j ≡ e) ⊎ (j ≡ e → ⊥) → e + 1 ≤ j
@@ -207,25 +207,25 @@ follows_first c m e lines ts f =
       tried = λ j. next_case j e (j == e) (list_any (is_try_of j) ts) (eqb-true j e) (eqb-false j e) (f.tried j);
     }
 
-pub follows_launch : (c : PermutationRun) (e : ℕ) (lines : List Line) (ts : List Try) → Follows c e lines ts → Follows c (e + 1) (launched c lines e) (tries_after c ts e)
+pub follows_launch : (c : PermutationRun) (e : ℕ) (lines : List Line) (ts : List Try) → Follows c e lines ts → Follows c (e + 1) (after_launch c lines e) (tries_after c ts e)
 follows_launch c e lines ts f =
     let m = moment_of c (e + 1) e in
     follows_polled c m (e + 1) (m.joined + 1) (first_try c m lines e) (record { entry = e; moment = m } ∷ ts) (omega arith) (omega arith) (follows_first c m e lines ts f)
 
-report_case : (c : PermutationRun) (e rest count : ℕ) (way : List Line) (ts : List Try) (busy active present : Bool) → busy ≡ active → way ≡ said c ts → (report_from c (e + 1) rest count (launched c way e)).lines ≡ said c (tries_from c (e + 1) rest count (tries_after c ts e))
-    → (if busy then record { lines = way; state = Invalid } else (if present then report_from c (e + 1) rest count (launched c way e) else record { lines = way; state = Due e })).lines ≡ said c (if active then ts else (if present then tries_from c (e + 1) rest count (tries_after c ts e) else ts))
+report_case : (c : PermutationRun) (e rest count : ℕ) (way : List Line) (ts : List Try) (busy active present : Bool) → busy ≡ active → way ≡ said c ts → (walked_from c (e + 1) rest count (after_launch c way e)).lines ≡ said c (tries_from c (e + 1) rest count (tries_after c ts e))
+    → (if busy then record { lines = way; state = Invalid } else (if present then walked_from c (e + 1) rest count (after_launch c way e) else record { lines = way; state = Due e })).lines ≡ said c (if active then ts else (if present then tries_from c (e + 1) rest count (tries_after c ts e) else ts))
 report_case c e rest count way ts busy true present is said_is more = rw is said_is
 report_case c e rest count way ts busy false true is said_is more = rw is more
 report_case c e rest count way ts busy false false is said_is more = rw is said_is
 
-follows_report : (c : PermutationRun) (count rest e : ℕ) (lines : List Line) (ts : List Try) → Follows c e lines ts → (report_from c e rest count lines).lines ≡ said c (tries_from c e rest count ts)
+follows_report : (c : PermutationRun) (count rest e : ℕ) (lines : List Line) (ts : List Try) → Follows c e lines ts → (walked_from c e rest count lines).lines ≡ said c (tries_from c e rest count ts)
 follows_report c count zero e lines ts f =
     let m = moment_of c e e in (follows_polled c m e (m.joined + 1) lines ts (omega arith) (omega arith) f).said_is
 follows_report c count (suc rest) e lines ts f =
     let way = follows_way c e lines ts f in
-    report_case c e rest count (made_way c lines e) (tries_before c ts e) (has_unreported c (made_way c lines e) e) (has_active c (tries_before c ts e) e) (nat_lt e count) (follows_busy c e (made_way c lines e) (tries_before c ts e) way) way.said_is
-    (follows_report c count rest (e + 1) (launched c (made_way c lines e) e) (tries_after c (tries_before c ts e) e) (follows_launch c e (made_way c lines e) (tries_before c ts e) way))
+    report_case c e rest count (before_launch c lines e) (tries_before c ts e) (has_unreported c (before_launch c lines e) e) (has_active c (tries_before c ts e) e) (nat_lt e count) (follows_busy c e (before_launch c lines e) (tries_before c ts e) way) way.said_is
+    (follows_report c count rest (e + 1) (after_launch c (before_launch c lines e) e) (tries_after c (tries_before c ts e) e) (follows_launch c e (before_launch c lines e) (tries_before c ts e) way))
 
 -- the lines of the report are what its tries say
-pub lines_are_said : (c : PermutationRun) (count : ℕ) → (report c count).lines ≡ said c (tries c count)
+pub lines_are_said : (c : PermutationRun) (count : ℕ) → (walked c count).lines ≡ said c (tries c count)
 lines_are_said c count = follows_report c count (length c.entries) 0 [] [] (record { said_is = refl; tried = λ i. ap not (sym (le-ltb i 0 (omega arith))) })

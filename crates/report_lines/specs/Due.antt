@@ -12,7 +12,7 @@ use Rattle.report_lines.specs.declared.history.RunState.{RunState}
 use Rattle.report_lines.specs.declared.history.RunState.TheVariants.{Due, Whole, Invalid}
 use Rattle.report_lines.specs.Starts.{order_of, segment_start, ends_in}
 use Rattle.report_lines.specs.History.{PermutationRun}
-use Rattle.report_lines.specs.Walk.{report}
+use Rattle.report_lines.specs.Walk.{walked}
 
 -- the blocks of a permutation, each with its session: of the setups, of the entries, of the sessions' teardowns, of the main teardown; and how many sessions there are
 pub record Launches : Type 0 where
@@ -66,7 +66,7 @@ due_entry l items count Whole =
 
 -- the next order where so many orders of the history are there
 abbrev pub due : Launches → PermutationRun → ℕ → Order
-due l c count = unwrap_or (due_setup c.items count 0 l.setups) (due_entry l c.items count (report c (count - length l.setups)).state)
+due l c count = unwrap_or (due_setup c.items count 0 l.setups) (due_entry l c.items count (walked c (count - length l.setups)).state)
 
 -- what a permutation launches, and its entries with a history of theirs
 pub record Planned : Type 0 where

@@ -4,7 +4,7 @@ use Rattle.report_lines.specs.declared.history.Line.{Line}
 use Rattle.report_lines.specs.declared.history.RunState.{RunState}
 use Rattle.report_lines.specs.declared.history.RunState.TheVariants.{Due, Whole, Invalid}
 use Rattle.report_lines.specs.History.{PermutationRun}
-use Rattle.report_lines.specs.Walk.{report}
+use Rattle.report_lines.specs.Walk.{walked}
 
 -- the lines so far, and how many entries are launched
 pub record LinesSoFar : Type 0 where
@@ -19,5 +19,5 @@ IsAt c count launched Invalid = Unit {0}
 
 -- this is the report of the entries of which so many segments are there
 pub record IsReportSoFar (c : PermutationRun) (count : ℕ) (so_far : LinesSoFar) (state : RunState) : Type 0 where
-  pub report_is : report c count ≡ record { lines = so_far.lines; state = state }
+  pub report_is : walked c count ≡ record { lines = so_far.lines; state = state }
   pub at : IsAt c count so_far.launched state

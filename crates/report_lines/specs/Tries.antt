@@ -6,7 +6,7 @@ use Rattle.report_lines.specs.declared.history.Line.{Line}
 use Rattle.report_lines.specs.declared.history.Line.TheVariants.{AtOnce, Waiting, Completed}
 use Rattle.report_lines.specs.declared.history.Moment.{Moment}
 use Rattle.report_lines.specs.History.{PermutationRun}
-use Rattle.report_lines.specs.Walk.{session_of_entry, has_ended, is_awaited, is_star, markers_of}
+use Rattle.report_lines.specs.Walk.{session_of_entry, block_ended, is_awaited, is_star, markers_of}
 use Rattle.report_lines.specs.Report.{moment_of}
 use Rattle.report_lines.specs.Walk.{is_of}
 
@@ -25,7 +25,7 @@ is_untried tries i = not (list_any (is_try_of i) tries)
 -- the condition of a try: the block has ended in the items so far, no instance of a step that a marker names is active, and, with a star, the try isn't the first
 abbrev pub may_be_reported : PermutationRun → List ℕ → Bool → Try → Bool
 may_be_reported c active is_first t =
-    has_ended c t.moment.seen t.entry && not (list_any (is_awaited c t.entry) active) && not (is_first && list_any is_star (markers_of c t.entry))
+    block_ended c t.moment.seen t.entry && not (list_any (is_awaited c t.entry) active) && not (is_first && list_any is_star (markers_of c t.entry))
 
 -- the condition was met at one of the tries of this instance
 abbrev pub was_reported : PermutationRun → List Try → ℕ → Bool

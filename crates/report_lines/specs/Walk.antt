@@ -18,8 +18,8 @@ abbrev pub session_of_entry : PermutationRun → ℕ → ℕ
 session_of_entry c i = option_map_or (λ (e : EntryTree). e.session) (slice_get c.entries i) 0
 
 -- the instance's block has ended in the items so far
-abbrev pub has_ended : PermutationRun → ℕ → ℕ → Bool
-has_ended c seen i = list_any (ends_in (session_of_entry c i)) (slice_range c.items (seen_before c i) seen)
+abbrev pub block_ended : PermutationRun → ℕ → ℕ → Bool
+block_ended c seen i = list_any (ends_in (session_of_entry c i)) (slice_range c.items (seen_before c i) seen)
 
 -- a marker names the entry's step
 abbrev pub names : EntryTree → Marker → Bool
@@ -39,12 +39,12 @@ abbrev pub is_awaited : PermutationRun → ℕ → ℕ → Bool
 is_awaited c i j = option_map_or (λ (e : EntryTree). list_any (names e) (markers_of c i)) (slice_get c.entries j) false
 
 -- the instance's block has ended, and no step that its markers name is active
-abbrev pub may_report : PermutationRun → Moment → List Line → ℕ → Bool
-may_report c m lines i = has_ended c m.seen i && not (list_any (is_awaited c i) (active lines m.launched))
+abbrev pub can_report : PermutationRun → Moment → List Line → ℕ → Bool
+can_report c m lines i = block_ended c m.seen i && not (list_any (is_awaited c i) (active lines m.launched))
 
 -- a try of an instance that isn't its first
-abbrev pub retry : PermutationRun → Moment → List Line → ℕ → List Line
-retry c m lines i = if not (list_any (reports i) lines) && may_report c m lines i then lines ++ Completed i m.seen ∷ [] else lines
+abbrev pub try_again : PermutationRun → Moment → List Line → ℕ → List Line
+try_again c m lines i = if not (list_any (reports i) lines) && can_report c m lines i then lines ++ Completed i m.seen ∷ [] else lines
 
 -- the last pass reported a step, and a step that remains on the waiting list has a marker
 abbrev pub polls_again : PermutationRun → Moment → List Line → List Line → Bool
@@ -53,11 +53,11 @@ polls_again c m old new = nat_lt (length old) (length new) && list_any (λ j. na
 -- the waiting list is gone through, so many times at most
 abbrev pub polled : PermutationRun → Moment → ℕ → List Line → List Line
 polled c m zero lines = lines
-polled c m (suc more) lines = let new = fold (retry c m) lines (range_with_len 0 m.joined) in if polls_again c m lines new then polled c m more new else new
+polled c m (suc more) lines = let new = fold (try_again c m) lines (range_with_len 0 m.joined) in if polls_again c m lines new then polled c m more new else new
 
 -- the passes of a moment; there are never more than so many
-abbrev pub poll : PermutationRun → Moment → List Line → List Line
-poll c m lines = polled c m (m.joined + 1) lines
+abbrev pub all_polls : PermutationRun → Moment → List Line → List Line
+all_polls c m lines = polled c m (m.joined + 1) lines
 
 -- the instance is one of the session
 abbrev pub is_of : PermutationRun → ℕ → ℕ → Bool
@@ -68,23 +68,23 @@ abbrev pub has_unreported : PermutationRun → List Line → ℕ → Bool
 has_unreported c lines e = list_any (is_of c (session_of_entry c e)) (active lines e)
 
 -- the tries before an entry's Launch: where its session has an active step, the session's steps first
-abbrev pub made_way : PermutationRun → List Line → ℕ → List Line
-made_way c lines e =
-    let m = moment_of c e e in if has_unreported c lines e then poll c m (fold (retry c m) lines (filter (is_of c (session_of_entry c e)) (range_with_len 0 e))) else lines
+abbrev pub before_launch : PermutationRun → List Line → ℕ → List Line
+before_launch c lines e =
+    let m = moment_of c e e in if has_unreported c lines e then all_polls c m (fold (try_again c m) lines (filter (is_of c (session_of_entry c e)) (range_with_len 0 e))) else lines
 
 -- the tries after it: the new step first, which a star keeps from being reported at once
-abbrev pub launched : PermutationRun → List Line → ℕ → List Line
-launched c lines e =
-    let m = moment_of c (e + 1) e in poll c m (lines ++ (if may_report c m lines e && not (list_any is_star (markers_of c e)) then AtOnce e m.seen else Waiting e) ∷ [])
+abbrev pub after_launch : PermutationRun → List Line → ℕ → List Line
+after_launch c lines e =
+    let m = moment_of c (e + 1) e in all_polls c m (lines ++ (if can_report c m lines e && not (list_any is_star (markers_of c e)) then AtOnce e m.seen else Waiting e) ∷ [])
 
 -- the report of the entries from one on, of whose segments so many are there
-abbrev pub report_from : PermutationRun → ℕ → ℕ → ℕ → List Line → Report
-report_from c e zero count lines =
-    let all = poll c (moment_of c e e) lines in record { lines = all; state = if length (active all e) == 0 then Whole else Invalid }
-report_from c e (suc rest) count lines =
-    let way = made_way c lines e in
+abbrev pub walked_from : PermutationRun → ℕ → ℕ → ℕ → List Line → Report
+walked_from c e zero count lines =
+    let all = all_polls c (moment_of c e e) lines in record { lines = all; state = if length (active all e) == 0 then Whole else Invalid }
+walked_from c e (suc rest) count lines =
+    let way = before_launch c lines e in
     if has_unreported c way e then record { lines = way; state = Invalid }
-    else if nat_lt e count then report_from c (e + 1) rest count (launched c way e) else record { lines = way; state = Due e }
+    else if nat_lt e count then walked_from c (e + 1) rest count (after_launch c way e) else record { lines = way; state = Due e }
 
-abbrev pub report : PermutationRun → ℕ → Report
-report c count = report_from c 0 (length c.entries) count []
+abbrev pub walked : PermutationRun → ℕ → Report
+walked c count = walked_from c 0 (length c.entries) count []

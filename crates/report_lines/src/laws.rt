@@ -5,7 +5,7 @@ ghost use Rattle.report_lines.specs.declared.history.Line.{Line};
 ghost use Rattle.report_lines.specs.declared.history.Moment.{Moment};
 ghost use Rattle.report_lines.specs.History.{PermutationRun};
 ghost use Rattle.report_lines.specs.Report.{reports, report};
-ghost use Rattle.report_lines.specs.Walk.{polled, poll};
+ghost use Rattle.report_lines.specs.Walk.{polled, all_polls};
 ghost use Rattle.report_lines.specs.Tries.{tries, said, IsReportPoint};
 ghost use Rattle.session_machine.specs.declared.reply.HistItem.{HistItem};
 ghost use Rattle.report_lines.specs.Starts.{is_order};
@@ -16,7 +16,7 @@ ghost use Rattle.report_lines.specs.declared.history.RunState.TheVariants.{Inval
 
 /// However many passes were made at a moment, no more would report anything.
 pub fn no_further_pass()
-    ensures { (c : PermutationRun) (m : Moment) (lines : List Line) (more : ℕ) → polled c m (m.joined + 1 + more) lines ≡ poll c m lines }
+    ensures { (c : PermutationRun) (m : Moment) (lines : List Line) (more : ℕ) → polled c m (m.joined + 1 + more) lines ≡ all_polls c m lines }
 {}
 
 /// The lines of the report are what its tries say, in their order.

@@ -15,6 +15,6 @@ pub use entries::{ends_in, is_order, session_of};
 pub use history::{Line, Moment, PlannedLaunch, RunState};
 pub use lines_so_far::LinesSoFar;
 pub use permutation_run::PermutationRun;
-pub use plan::{Plan, Schedule};
+pub use plan::{PlannedRun, Schedule};
 pub use progress::{PlanProgress, report};
 pub use segments::{Segments, any_ends, any_fails};

@@ -6,11 +6,11 @@ ghost use Rattle.report_lines.specs.SoFar.{LinesSoFar, IsAt, IsReportSoFar};
 ghost use Rattle.report_lines.specs.Inner.Waiting.{IsKept};
 ghost use Rattle.report_lines.specs.Due.{orders};
 ghost use Rattle.report_lines.specs.History.{seen_before};
-ghost use Rattle.report_lines.specs.Walk.{session_of_entry, is_awaited, has_ended};
+ghost use Rattle.report_lines.specs.Walk.{session_of_entry, is_awaited, block_ended};
 ghost use Rattle.report_lines.specs.Inner.Trying.{is_marked, instances, first_try, pass, is_chosen, chosen_retry, retried_from};
 ghost use Rattle.report_lines.specs.Report.{active};
-ghost use Rattle.report_lines.specs.Walk.{may_report, retry, polls_again, polled, poll, has_unreported, is_of};
-ghost use Rattle.report_lines.specs.Walk.{made_way, launched, report, report_from};
+ghost use Rattle.report_lines.specs.Walk.{can_report, try_again, polls_again, polled, all_polls, has_unreported, is_of};
+ghost use Rattle.report_lines.specs.Walk.{before_launch, after_launch, walked, walked_from};
 
 use crate::history::{Line, Moment, RunState};
 use crate::run_so_far::RunSoFar;
@@ -115,7 +115,7 @@ impl LinesSoFar {
         requires entry { entry < length run.now.entries }
         requires seen { m.seen ≡ length run.now.items }
         requires launched { m.launched ≡ self.now.launched }
-        ensures { result ≡ may_report run.now m self.now.lines entry }
+        ensures { result ≡ can_report run.now m self.now.lines entry }
     {
         if !run.has_ended(entry) {
             return false;
@@ -137,7 +137,7 @@ impl LinesSoFar {
         requires entry { entry < length run.now.entries }
         requires seen { m.seen ≡ length run.now.items }
         requires launched { m.launched ≡ self.now.launched }
-        ensures { result ≡ (is_chosen run.now m chosen entry && may_report run.now m self.now.lines entry) }
+        ensures { result ≡ (is_chosen run.now m chosen entry && can_report run.now m self.now.lines entry) }
     {
         is_chosen(run, m, chosen, entry) && self.may_report(run, m, entry)
     }
@@ -156,6 +156,9 @@ impl LinesSoFar {
         ensures launched { OnOk result (self.new.launched ≡ self.old.launched) }
         ensures lines { IfOk result (λ next. retried_from run.now m chosen self.new.lines self.new.launched next ≡ retried_from run.now m chosen self.old.lines self.old.launched place) }
         ensures fewer { IfOk result (λ next. length (active self.new.lines self.new.launched) - next ≤ length (active self.old.lines self.old.launched) - (place + 1)) }
+        ensures grown { OnOk result (length self.old.lines ≤ length self.new.lines) }
+        // Where no step is reported no memory is wanted.
+        ensures memory { OnErr result (length self.old.lines < length (retried_from run.now m chosen self.old.lines self.old.launched place)) }
     {
         let Some(entry) = self.waiting_at(place) else {
             return Ok(place);
@@ -178,7 +181,8 @@ impl LinesSoFar {
         requires entries { self.old.launched ≤ length run.now.entries }
         requires seen { m.seen ≡ length run.now.items }
         requires launched { m.launched ≡ self.old.launched }
-        ensures { OnOk result (self.new ≡ record self.old { lines = fold (chosen_retry run.now m chosen) self.old.lines (instances self.old.launched) }) }
+        ensures lines { OnOk result (self.new ≡ record self.old { lines = fold (chosen_retry run.now m chosen) self.old.lines (instances self.old.launched) }) }
+        ensures memory { OnErr result (length self.old.lines < length (fold (chosen_retry run.now m chosen) self.old.lines (instances self.old.launched))) }
     {
         let mut place = 0;
         for _turn in 0..self.waiting.len() {
@@ -193,7 +197,8 @@ impl LinesSoFar {
         requires entries { self.old.launched ≤ length run.now.entries }
         requires seen { m.seen ≡ length run.now.items }
         requires launched { m.launched ≡ self.old.launched }
-        ensures { OnOk result (self.new ≡ record self.old { lines = pass run.now m self.old.lines }) }
+        ensures lines { OnOk result (self.new ≡ record self.old { lines = pass run.now m self.old.lines }) }
+        ensures memory { OnErr result (length self.old.lines < length (pass run.now m self.old.lines)) }
     {
         self.go_through(run, m, Chosen::Joined)
     }
@@ -218,6 +223,7 @@ impl LinesSoFar {
         requires launched { m.launched ≡ self.old.launched }
         ensures lines { OnOk result (self.new ≡ record self.old { lines = pass run.now m self.old.lines }) }
         ensures again { IfOk result (λ again. again ≡ polls_again run.now m self.old.lines self.new.lines) }
+        ensures memory { OnErr result (length self.old.lines < length (pass run.now m self.old.lines)) }
     {
         let had = self.lines.len();
         self.pass(run, m)?;
@@ -233,7 +239,8 @@ impl LinesSoFar {
         requires room { length run.now.entries + 1 < 2 ^ 64 }
         requires seen { m.seen ≡ length run.now.items }
         requires launched { m.launched ≡ self.old.launched }
-        ensures { OnOk result (self.new ≡ record self.old { lines = poll run.now m self.old.lines }) }
+        ensures lines { OnOk result (self.new ≡ record self.old { lines = all_polls run.now m self.old.lines }) }
+        ensures memory { OnErr result (length self.old.lines < length (all_polls run.now m self.old.lines)) }
     {
         for _turn in 0..m.joined + 1 {
             if !self.turn(run, m)? {
@@ -320,7 +327,8 @@ impl LinesSoFar {
         requires entries { self.old.launched ≤ length run.now.entries }
         requires seen { m.seen ≡ length run.now.items }
         requires launched { m.launched ≡ self.old.launched }
-        ensures { OnOk result (self.new ≡ record self.old { lines = fold (retry run.now m) self.old.lines (filter (is_of run.now session) (instances self.old.launched)) }) }
+        ensures lines { OnOk result (self.new ≡ record self.old { lines = fold (try_again run.now m) self.old.lines (filter (is_of run.now session) (instances self.old.launched)) }) }
+        ensures memory { OnErr result (length self.old.lines < length (fold (try_again run.now m) self.old.lines (filter (is_of run.now session) (instances self.old.launched)))) }
     {
         self.go_through(run, m, Chosen::Own(session))
     }
@@ -330,7 +338,7 @@ impl LinesSoFar {
         requires next { entry ≡ self.old.launched }
         requires entries { entry ≤ length run.now.entries }
         requires now { orders run.now.items ≤ run.now.setups + entry }
-        ensures lines { OnOk result (self.new ≡ record self.old { lines = made_way run.now self.old.lines entry }) }
+        ensures lines { OnOk result (self.new ≡ record self.old { lines = before_launch run.now self.old.lines entry }) }
         ensures memory { OnErr result (has_unreported run.now self.old.lines entry ≡ true) }
     {
         if !self.is_busy(run, entry) {
@@ -345,7 +353,7 @@ impl LinesSoFar {
     fn launch(&mut self, run: &RunSoFar<'_>) -> Result<(), AllocError>
         requires entries { self.old.launched < length run.now.entries }
         requires now { orders run.now.items ≤ run.now.setups + self.old.launched + 1 }
-        ensures { OnOk result (self.new ≡ record { lines = launched run.now self.old.lines self.old.launched; launched = self.old.launched + 1 }) }
+        ensures { OnOk result (self.new ≡ record { lines = after_launch run.now self.old.lines self.old.launched; launched = self.old.launched + 1 }) }
     {
         let m = run.after(self.launched);
         self.begin(run, m)?;
@@ -356,7 +364,7 @@ impl LinesSoFar {
     fn finish(&mut self, run: &RunSoFar<'_>) -> Result<RunState, AllocError>
         requires all { self.old.launched ≡ length run.now.entries }
         requires now { orders run.now.items ≤ run.now.setups + self.old.launched }
-        ensures report { IfOk result (λ state. report_from run.now self.old.launched 0 self.old.launched self.old.lines ≡ record { lines = self.new.lines; state = state }) }
+        ensures report { IfOk result (λ state. walked_from run.now self.old.launched 0 self.old.launched self.old.lines ≡ record { lines = self.new.lines; state = state }) }
         ensures at { IfOk result (λ state. IsAt run.now self.old.launched self.new.launched state) }
     {
         let m = run.before(self.launched);
@@ -373,7 +381,7 @@ impl LinesSoFar {
         requires next { entry ≡ self.old.launched }
         requires entries { entry ≤ length run.now.entries }
         requires now { orders run.now.items ≤ run.now.setups + entry }
-        ensures report { IfOk result (λ state. report_from run.now entry (length run.now.entries - entry) entry self.old.lines ≡ record { lines = self.new.lines; state = state }) }
+        ensures report { IfOk result (λ state. walked_from run.now entry (length run.now.entries - entry) entry self.old.lines ≡ record { lines = self.new.lines; state = state }) }
         ensures at { IfOk result (λ state. IsAt run.now entry self.new.launched state) }
     {
         if entry == run.len() {

@@ -84,7 +84,7 @@ pub struct Schedule<'a> {
 
 /// A permutation with its history.
 #[derive(Drop)]
-pub struct Plan<'a> {
+pub struct PlannedRun<'a> {
     setups: &'a [PlannedLaunch],
     entries: &'a [Entry],
     items: &'a [HistItem<'a>],
@@ -94,7 +94,7 @@ pub struct Plan<'a> {
     last: &'a [PlannedLaunch],
 }
 
-impl<'a> Model for Plan<'a> {
+impl<'a> Model for PlannedRun<'a> {
     ghost use Rattle.std.specs.Prelude.{◌+◌, ◌<◌, ◌^◌, length, map};
     ghost use Rattle.spec_parser.specs.Trees.{entry_view};
     ghost use Rattle.report_lines.specs.Due.{Planned};
@@ -109,12 +109,16 @@ impl<'a> Model for Plan<'a> {
     ghost invariant = { λ p. length p.setups.now + length p.entries.now + 1 < 2 ^ 64 };
 }
 
-impl<'a> Plan<'a> {
+impl<'a> PlannedRun<'a> {
     ghost use Rattle.report_lines.specs.Due.{orders, due_entry, due};
     ghost use Rattle.report_lines.specs.Inner.Due.{due_last};
 
     /// A permutation of these entries, with the launches of their steps and of what stands around them, and its history.
-    pub fn new(entries: &'a [Entry], items: &'a [HistItem<'a>], schedule: &Schedule<'a>) -> Plan<'a>
+    pub fn new(
+        entries: &'a [Entry],
+        items: &'a [HistItem<'a>],
+        schedule: &Schedule<'a>,
+    ) -> PlannedRun<'a>
         requires { length schedule.now.setups.now + length entries.now + 1 < 2 ^ 64 }
         ensures { result ≡ record {
           launches = record {
@@ -127,7 +131,7 @@ impl<'a> Plan<'a> {
           run = record { entries = map entry_view entries.now; items = items.now; setups = length schedule.now.setups.now };
         } }
     {
-        Plan {
+        PlannedRun {
             setups: schedule.setups,
             entries,
             items,
@@ -204,7 +208,7 @@ impl<'a> Plan<'a> {
 }
 
 /// The next order, by what is kept of the whole history.
-fn due_by<'a>(plan: &'a Plan<'a>, progress: &'a PlanProgress) -> Order
+fn due_by<'a>(plan: &'a PlannedRun<'a>, progress: &'a PlanProgress) -> Order
     requires { IsSettled plan.now.run progress.now }
     ensures { result ≡ due plan.now.launches plan.now.run (orders plan.now.run.items) }
 {

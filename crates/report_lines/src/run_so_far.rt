@@ -40,7 +40,7 @@ impl<'a> RunSoFar<'a> {
     ghost use Rattle.std.specs.List.{list_any};
     ghost use Rattle.report_lines.specs.Report.{moment_of};
     ghost use Rattle.report_lines.specs.History.{seen_before};
-    ghost use Rattle.report_lines.specs.Walk.{has_ended, is_awaited, is_star, markers_of, session_of_entry};
+    ghost use Rattle.report_lines.specs.Walk.{block_ended, is_awaited, is_star, markers_of, session_of_entry};
     ghost use Rattle.report_lines.specs.Inner.Trying.{is_marked};
     ghost use Rattle.report_lines.specs.Due.{orders};
     ghost use Rattle.report_lines.specs.Places.{IsSeen};
@@ -156,7 +156,7 @@ impl<'a> RunSoFar<'a> {
     /// Whether an entry's block has ended by now.
     pub(crate) fn has_ended(&self, entry: usize) -> bool
         requires { entry < length self.now.entries }
-        ensures { result ≡ has_ended self.now (length self.now.items) entry }
+        ensures { result ≡ block_ended self.now (length self.now.items) entry }
     {
         let session = self.session_at(entry);
         let from = self.seen_before(entry);

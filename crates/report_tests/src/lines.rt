@@ -3,7 +3,7 @@
 ghost use Rattle.std.specs.Prelude.{◌+◌, ◌<◌, ◌^◌, length};
 
 use crate::histories::{done, holds, launch};
-use report_lines::{Line, PermutationRun, Plan, PlannedLaunch, RunState, Schedule, report};
+use report_lines::{Line, PermutationRun, PlannedLaunch, PlannedRun, RunState, Schedule, report};
 use session_machine::{HistItem, Order};
 use spec_parser::{Entry, Marker};
 use std::alloc::{AllocError, Global};
@@ -71,7 +71,7 @@ fn due<'a>(
 ) -> Result<Order, AllocError>
     requires { length entries.now + 3 < 2 ^ 64 }
 {
-    Plan::new(entries, items, &TWO_BLOCKS).due(alloc)
+    PlannedRun::new(entries, items, &TWO_BLOCKS).due(alloc)
 }
 
 fn due_is(

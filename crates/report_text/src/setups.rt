@@ -1,6 +1,6 @@
 //! What setups say.
 
-ghost use Rattle.std.specs.Prelude.{◌≡◌, ◌++◌, OnOk, OnErr, IfOk, string_bytes, true};
+ghost use Rattle.std.specs.Prelude.{◌≡◌, ◌≢◌, ◌<◌, ◌++◌, [], OnOk, OnErr, IfOk, string_bytes, true};
 ghost use Rattle.std.specs.Str.Lossy.{utf8_lossy};
 ghost use Rattle.iso_lexer.specs.Devices.{page_text};
 ghost use Rattle.session_machine.specs.Machine.{is_failed};
@@ -57,6 +57,8 @@ pub fn push_setups(
 ) -> Result<Ending, AllocError>
     ensures text { OnOk result (page_text page.new ≡ page_text page.old ++ (setups_say segments.now (orders segments.now) 0 sessions.now).text) }
     ensures ending { IfOk result (λ ending. ending_of ending ≡ (setups_say segments.now (orders segments.now) 0 sessions.now).ending) }
+    // Where no setup is there nothing grows.
+    ensures memory { OnErr result ((sessions.now ≢ []) × (0 < orders segments.now)) }
 {
     let count = segments.count();
     for (number, session) in sessions.iter().enumerate() {

@@ -7,6 +7,8 @@ pub mod Telling
 pub mod Printing
 pub mod Beginning
 pub mod FreeTelling
+pub mod FreeBlocks
+pub mod FreeFitting
 pub mod OneText
 pub mod Whole
 pub mod Drafting

@@ -61,8 +61,10 @@ module _ {S W N : Type 0} (source : Source S) (sink : Sink W) (noted : Sink N) (
         (sink.put_so_far out_old) (sink.put_so_far out_new) (noted.put_so_far notes_old) (noted.put_so_far notes_new))
     -- want of memory is told as such, and as no thread's fault
     pub memory : IfErr result (λ e. tells_memory e ≡ true)
-    -- nothing is put of threads that come to no end, nor of a schedule that broke
+    -- nothing is put of threads that come to no end
     pub broken : IsTrue (has_broken result) → Untouched out_old out_new notes_old notes_new
+    -- no free run ends in ScheduleBroken
+    pub unbroken : result ≢ Err faults.ScheduleBroken
     -- Read is answered exactly where the source has failed
     pub read : IsErrOf result faults.Read ↔ (source.failed input_new ≡ true)
     -- nothing is put of a file that can't be read

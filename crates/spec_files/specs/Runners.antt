@@ -1,5 +1,5 @@
 -- What is asked of who runs the permutations of a file, and of who runs a file freely.
-use Rattle.std.specs.Prelude.{◌≡◌, ◌||◌, true, Result, IsTrue, IfErr, IsErrOf}
+use Rattle.std.specs.Prelude.{◌≡◌, ◌≢◌, ◌||◌, true, Result, Err, IsTrue, IfErr, IsErrOf}
 use Rattle.std.specs.Borrow.{Bor, MutBor}
 use Rattle.std.specs.Global.{Vec}
 use Rattle.iso_lexer.specs.declared.device.Sink.{Ghosts as Sink}
@@ -29,6 +29,7 @@ module _ {W N : Type 0} (sink : Sink W) (noted : Sink N) where
     pub told : IsTrue (has_ended result) → IsFreeTold spec blocks (sink.put_so_far out_old) (sink.put_so_far out_new) (noted.put_so_far notes_old) (noted.put_so_far notes_new) result
     pub begun : Begun (FreeSays spec blocks) (sink.put_so_far out_old) (sink.put_so_far out_new) (noted.put_so_far notes_old) (noted.put_so_far notes_new)
     pub broken : IsTrue (has_broken result) → Untouched out_old out_new notes_old notes_new
+    pub unbroken : result ≢ Err faults.ScheduleBroken
     pub write : IsErrOf result faults.Write → (sink.failed out_new || noted.failed notes_new) ≡ true
     pub kinds : IfErr result (λ e. is_of_one e ≡ true)
 

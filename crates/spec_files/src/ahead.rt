@@ -1,6 +1,6 @@
 //! The permutations of a spec, run ahead of their turn, several side by side.
 
-ghost use Rattle.std.specs.Prelude.{◌≡◌, ◌+◌, ◌<◌, ◌≤◌, ◌≢◌, ◌⊎◌, [], ◌∷◌, ◌++◌, All, length, map, OnOk, IfOk, IfSome, IfNone};
+ghost use Rattle.std.specs.Prelude.{◌≡◌, ◌+◌, ◌*◌, ◌<◌, ◌≤◌, ◌≢◌, ◌⊎◌, [], ◌∷◌, ◌++◌, All, length, map, OnOk, IfOk, IfSome, IfNone};
 ghost use Rattle.std.specs.Bool.{OnTrue, OnFalse};
 ghost use Rattle.sql_blocks.specs.Blocks.{blocks_of};
 ghost use Rattle.spec_parser.specs.Trees.{entry_view, spec_view};
@@ -32,14 +32,17 @@ const MOST_IN_TURN: u64 = 4;
 
 /// How many permutations of so many sessions run at a time; each has a thread for each session, and the one it runs in.
 fn at_a_time(sessions: usize) -> usize
-    ensures { (0 < result) × (result ≤ 8) }
+    ensures few { (0 < result) × (result ≤ 8) }
+    ensures threads { (result ≡ 1) ⊎ (result * (sessions + 1) ≤ 40) }
 {
-    (MOST_THREADS / sessions.saturating_add(1)).clamp(1, MOST_AT_A_TIME)
+    let each = sessions.saturating_add(1);
+    let fit = MOST_THREADS / each;
+    fit.clamp(1, MOST_AT_A_TIME)
 }
 
 /// How many permutations of so many sessions run ahead of their turn, at most.
 fn most_ahead(sessions: usize) -> u64
-    ensures { 0 < result }
+    ensures { (0 < result) × (result ≤ 32) }
 {
     at_a_time(sessions) as u64 * MOST_IN_TURN
 }

@@ -28,6 +28,7 @@ fn run_file_freely<
     ensures begun { Begun (FileSaysFreely bytes.now)
         (W.put_so_far out.old) (W.put_so_far out.new) (N.put_so_far notes.old) (N.put_so_far notes.new) }
     ensures broken { IsTrue (has_broken result) → (out.new ≡ out.old) × (notes.new ≡ notes.old) }
+    ensures unbroken { result ≢ Err RunFault.ScheduleBroken }
     ensures memory { IfErr result (λ e. tells_memory e ≡ true) }
     ensures room { IsErrOf result RunFault.Memory → (length bytes.now ≤ longest_file) × IsUtf8 bytes.now }
     ensures write { IsErrOf result RunFault.Write → (W.failed out.new || N.failed notes.new) ≡ true }
@@ -39,7 +40,8 @@ fn run_file_freely<
 
 /// Reads a spec file and has it run freely by what is given to that end. Then the text of what happened is written, which another run of
 /// the same file may not repeat; permutation lines count for nothing. The file is refused as by `run_spec_by`. Nothing is
-/// written before the run is closed; a setup that fails or waits ends it.
+/// written before the run is closed; a setup that fails or waits ends it. Where its threads come to no end it ends in `Threads`;
+/// none ends in `ScheduleBroken`.
 pub fn free_spec_by<
     S: Source,
     W: Sink,

@@ -10,7 +10,7 @@ use std::thread::yield_now;
 pub const LOOKS: u64 = 100_000_000;
 
 /// Looks until the number is there. Says whether it came.
-fn comes(number: &AtomicU64, wanted: u64) -> bool {
+pub fn comes(number: &AtomicU64, wanted: u64) -> bool {
     for _ in 0..LOOKS {
         if number.load(Ordering::SeqCst) == wanted {
             return true;

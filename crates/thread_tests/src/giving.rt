@@ -103,7 +103,7 @@ impl Gate for Counting {
 }
 
 /// How often a thread lets others run, so that those that are to sleep do.
-const YIELDS: u64 = 1_000;
+pub const YIELDS: u64 = 1_000;
 
 /// Lets session 2 step behind two steps of session 1, and session 1 launch block 99 once session 2 waits and sleeps. Counts what
 /// it is told.

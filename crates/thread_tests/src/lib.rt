@@ -31,4 +31,6 @@ mod signs;
 #[cfg(test)]
 mod telling;
 #[cfg(test)]
+mod two_faults;
+#[cfg(test)]
 mod worked;

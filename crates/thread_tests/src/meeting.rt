@@ -1,14 +1,11 @@
-//! Runs of spec files whose gates tell how many threads there are.
+//! Runs of spec files whose gates tell how many threads there are, and what a DELETE that waits prints.
 
 use crate::asking::holds;
 use crate::gates::{Meeting, Shut};
-use iso_lexer::FromStd;
-use permutations::{RunFault, run_spec};
-use session_threads::{Gate, ThreadFault};
-use std::alloc::{AllocError, Global};
-use std::sync::Wait;
+use crate::run_faults::{ends_at_the_gate, run};
+use session_threads::OpenGate;
+use std::alloc::AllocError;
 use std::sync::atomic::{AtomicU64, Ordering};
-use std::thread::Threads;
 
 /// Eight sessions of one step each, all of which stand in one permutation.
 const EIGHT: &str = "session s1 step a1 { SELECT 1; } session s2 step a2 { SELECT 1; }
@@ -17,27 +14,11 @@ session s5 step a5 { SELECT 1; } session s6 step a6 { SELECT 1; }
 session s7 step a7 { SELECT 1; } session s8 step a8 { SELECT 1; }
 permutation a1 a2 a3 a4 a5 a6 a7 a8";
 
-/// The answer to a run, and how many bytes it wrote.
-fn run<G: Gate, R: Threads + Wait + Sync>(
-    rt: &R,
-    alloc: Global,
-    spec: &str,
-    gate: &G,
-) -> (Result<(), RunFault>, usize) {
-    let mut input = FromStd::new(spec.as_bytes());
-    let mut text = Vec::new(alloc);
-    let mut notes = Vec::new(alloc);
-    let mut out = FromStd::new(&mut text);
-    let mut told = FromStd::new(&mut notes);
-    let answer = run_spec(rt, alloc, &mut input, &mut out, &mut told, 1, gate);
-    (answer, text.len())
-}
-
 #[test]
 fn all_workers_answer_at_once(rt: HostRuntime) -> Result<(), AllocError> {
     let gate = Meeting::of(8);
-    let (answer, _) = run(&rt, rt.alloc(), EIGHT, &gate);
-    holds(&rt, answer.is_ok(), "the run ends");
+    let ran = run(&rt, rt.alloc(), EIGHT, &gate);
+    holds(&rt, ran.answer.is_ok(), "the run ends");
     holds(&rt, gate.met.load(Ordering::SeqCst) == 8, "eight met");
     Ok(())
 }
@@ -47,14 +28,9 @@ fn a_gate_that_admits_nothing_ends_in_gate(rt: HostRuntime) -> Result<(), AllocE
     let gate = Shut {
         asked: AtomicU64::new(0),
     };
-    let (answer, written) = run(&rt, rt.alloc(), EIGHT, &gate);
-    holds(
-        &rt,
-        matches!(answer, Err(RunFault::Threads(ThreadFault::Gate))),
-        "the run ends in Gate",
-    );
+    let ran = run(&rt, rt.alloc(), EIGHT, &gate);
+    ends_at_the_gate(&rt, &ran, "Parsed test spec with 8 sessions\n");
     holds(&rt, gate.asked.load(Ordering::SeqCst) == 3, "three tries");
-    holds(&rt, written == 33, "the first line alone");
     Ok(())
 }
 
@@ -70,13 +46,33 @@ fn the_first_event_of_a_file_is_asked_for_three_times(rt: HostRuntime) -> Result
     let gate = Shut {
         asked: AtomicU64::new(0),
     };
-    let (answer, written) = run(&rt, rt.alloc(), ROWS, &gate);
-    holds(
-        &rt,
-        matches!(answer, Err(RunFault::Threads(ThreadFault::Gate))),
-        "the run ends in Gate",
-    );
+    let ran = run(&rt, rt.alloc(), ROWS, &gate);
+    ends_at_the_gate(&rt, &ran, "Parsed test spec with 2 sessions\n");
     holds(&rt, gate.asked.load(Ordering::SeqCst) == 3, "three tries");
-    holds(&rt, written == 33, "the first line alone");
+    Ok(())
+}
+
+/// What that prints: the DELETE waits, and when it goes on the row is 11 by then, so that both stay.
+const ROWS_TEXT: &str = "Parsed test spec with 2 sessions
+
+starting permutation: u d c r
+step u: UPDATE website SET hits = hits + 1;
+step d: DELETE FROM website WHERE hits = 10; <waiting ...>
+step c: COMMIT;
+step d: <... completed>
+step r: SELECT hits FROM website ORDER BY hits;
+hits
+----
+  10
+  11
+(2 rows)
+
+";
+
+#[test]
+fn a_delete_that_waits_prints_this(rt: HostRuntime) -> Result<(), AllocError> {
+    let ran = run(&rt, rt.alloc(), ROWS, &OpenGate);
+    holds(&rt, ran.answer.is_ok(), "the run ends");
+    holds(&rt, ran.text.as_slice() == ROWS_TEXT.as_bytes(), ROWS_TEXT);
     Ok(())
 }

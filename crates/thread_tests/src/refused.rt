@@ -14,7 +14,7 @@ use std::test::Fail;
 use std::thread::Threads;
 
 /// The blocks of the tests: a table, a transaction that holds its row, an update that waits for it, a query.
-const TEXTS: [&str; 4] = [
+pub const TEXTS: [&str; 4] = [
     "CREATE TABLE t (x int); INSERT INTO t VALUES (1);",
     "BEGIN; UPDATE t SET x = 2;",
     "UPDATE t SET x = 3;",
@@ -22,10 +22,10 @@ const TEXTS: [&str; 4] = [
 ];
 
 /// A block that isn't there.
-const NO_BLOCK: u32 = 99;
+pub const NO_BLOCK: u32 = 99;
 
 /// The fault in which a directed run of two sessions ends, in which this is ordered first and that then.
-fn directed<G: Gate, R: Threads + Wait + Sync>(
+pub fn directed<G: Gate, R: Threads + Wait + Sync>(
     rt: &R,
     alloc: Global,
     blocks: &[Block<'_>],
@@ -48,7 +48,7 @@ fn starved<R: Threads + Wait + Sync>(
     run_directed(rt, alloc, blocks, 2, store, Starved { first }, &OpenGate).err()
 }
 
-const QUERY: Order = Order::Launch {
+pub const QUERY: Order = Order::Launch {
     session: 1,
     block: 3,
 };
@@ -109,7 +109,7 @@ fn a_directed_run_asks_and_tells_each_event_once(rt: HostRuntime) -> Result<(), 
 }
 
 /// Session 1 runs these blocks, and session 2 those.
-fn plan_of(alloc: Global, first: &[u32], second: &[u32]) -> Result<FreePlan, Fail> {
+pub fn plan_of(alloc: Global, first: &[u32], second: &[u32]) -> Result<FreePlan, Fail> {
     let mut scripts = Vec::new(alloc);
     for blocks in [first, second] {
         let mut script = Vec::new(alloc);
@@ -123,7 +123,7 @@ fn plan_of(alloc: Global, first: &[u32], second: &[u32]) -> Result<FreePlan, Fai
     })
 }
 
-fn free<'a, 't, G: Gate, R: Threads + Wait + Sync>(
+pub fn free<'a, 't, G: Gate, R: Threads + Wait + Sync>(
     rt: &R,
     alloc: Global,
     blocks: &'a [Block<'t>],

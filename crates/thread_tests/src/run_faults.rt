@@ -31,12 +31,18 @@ impl Gate for NoSecond {
 
 /// What a run wrote, and its answer.
 #[derive(Drop)]
-struct Wrote {
-    text: Vec<u8>,
-    answer: Result<(), RunFault>,
+pub struct Wrote {
+    pub text: Vec<u8>,
+    pub answer: Result<(), RunFault>,
 }
 
-fn run<G: Gate, R: Threads + Wait + Sync>(rt: &R, alloc: Global, spec: &str, gate: &G) -> Wrote {
+/// Runs a file of at most ten permutations.
+pub fn run<G: Gate, R: Threads + Wait + Sync>(
+    rt: &R,
+    alloc: Global,
+    spec: &str,
+    gate: &G,
+) -> Wrote {
     let mut text = Vec::new(alloc);
     let mut notes = Vec::new(alloc);
     let mut input = FromStd::new(spec.as_bytes());
@@ -62,7 +68,7 @@ fn run_freely<G: Gate, R: Threads + Wait + Sync>(
 }
 
 /// The gate's fault is told as such, behind this text.
-fn ends_at_the_gate(rt: &impl Abort, run: &Wrote, text: &str) {
+pub fn ends_at_the_gate(rt: &impl Abort, run: &Wrote, text: &str) {
     let at_the_gate = matches!(run.answer, Err(RunFault::Threads(ThreadFault::Gate)));
     holds(rt, at_the_gate, "the gate's fault");
     holds(rt, run.text.as_slice() == text.as_bytes(), text);

@@ -1,6 +1,8 @@
-//! How many permutations of a file run, by what a gate sees.
+//! How many permutations of a file run, and how many at a time, by what a gate sees.
 
 use crate::asking::holds;
+use crate::gates::comes;
+use crate::run_faults::run;
 use iso_lexer::FromStd;
 use permutations::run_spec;
 use session_machine::{Event, Reply};
@@ -56,5 +58,45 @@ fn no_more_permutations_run_than_the_limit(rt: HostRuntime) -> Result<(), Fail> 
         let seen = launches_of(&rt, rt.alloc(), SIX, limit);
         holds(&rt, seen == launches, "as many as the limit leaves");
     }
+    Ok(())
+}
+
+/// Lets a permutation's launch go on once that of the other is asked for too.
+#[derive(Drop)]
+struct Pair {
+    asked: AtomicU64,
+    met: AtomicU64,
+}
+
+impl Gate for Pair {
+    fn tries(&self) -> u64 {
+        1
+    }
+
+    fn admits(&self, event: Event) -> bool {
+        if let Event::Launch { .. } = event {
+            self.asked.fetch_add(1, Ordering::SeqCst);
+            if comes(&self.asked, 2) {
+                self.met.fetch_add(1, Ordering::SeqCst);
+            }
+        }
+        true
+    }
+
+    fn answered(&self, _event: Event, _reply: &Reply<'_>) {}
+}
+
+/// Two permutations of one launch each.
+const TWO: &str = "session s step a { } session t step b { } permutation a permutation b";
+
+#[test]
+fn permutations_run_side_by_side(rt: HostRuntime) -> Result<(), Fail> {
+    let gate = Pair {
+        asked: AtomicU64::new(0),
+        met: AtomicU64::new(0),
+    };
+    let ran = run(&rt, rt.alloc(), TWO, &gate);
+    holds(&rt, ran.answer.is_ok(), "the run ends");
+    holds(&rt, gate.met.load(Ordering::SeqCst) == 2, "both were there");
     Ok(())
 }

@@ -9,7 +9,7 @@ use Rattle.report_lines.specs.declared.lines_so_far.Chosen.TheVariants.{Joined, 
 use Rattle.report_lines.specs.History.{PermutationRun}
 use Rattle.report_lines.specs.Walk.{is_star, markers_of}
 use Rattle.report_lines.specs.Report.{active}
-use Rattle.report_lines.specs.Walk.{is_of, may_report, retry}
+use Rattle.report_lines.specs.Walk.{is_of, can_report, try_again}
 
 -- the entries before this one, in order
 abbrev pub instances : ℕ → List ℕ
@@ -21,11 +21,11 @@ is_marked c i = not (length (markers_of c i) == 0)
 
 -- the first try of an instance
 abbrev pub first_try : PermutationRun → Moment → List Line → ℕ → List Line
-first_try c m lines i = lines ++ (if may_report c m lines i && not (list_any is_star (markers_of c i)) then AtOnce i m.seen else Waiting i) ∷ []
+first_try c m lines i = lines ++ (if can_report c m lines i && not (list_any is_star (markers_of c i)) then AtOnce i m.seen else Waiting i) ∷ []
 
 -- the waiting list is gone through once
 abbrev pub pass : PermutationRun → Moment → List Line → List Line
-pass c m lines = fold (retry c m) lines (instances m.joined)
+pass c m lines = fold (try_again c m) lines (instances m.joined)
 
 abbrev pub is_chosen : PermutationRun → Moment → Chosen → ℕ → Bool
 is_chosen c m Joined i = nat_lt i m.joined
@@ -33,11 +33,11 @@ is_chosen c m (Own session) i = is_of c session i
 
 -- a later try of a step, if it is of this session
 abbrev pub own_retry : PermutationRun → Moment → ℕ → List Line → ℕ → List Line
-own_retry c m session lines i = if is_of c session i then retry c m lines i else lines
+own_retry c m session lines i = if is_of c session i then try_again c m lines i else lines
 
 -- a later try of a step, if it is chosen
 abbrev pub chosen_retry : PermutationRun → Moment → Chosen → List Line → ℕ → List Line
-chosen_retry c m chosen lines i = if is_chosen c m chosen i then retry c m lines i else lines
+chosen_retry c m chosen lines i = if is_chosen c m chosen i then try_again c m lines i else lines
 
 -- the lines once the chosen steps of the waiting list are tried from this place on
 abbrev pub retried_from : PermutationRun → Moment → Chosen → List Line → ℕ → ℕ → List Line

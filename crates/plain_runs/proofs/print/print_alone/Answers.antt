@@ -6,6 +6,7 @@ use Rattle.sql_blocks.specs.Blocks.{blocks_of}
 use Rattle.permutation_lists.specs.Permutations.{permutations_of}
 use Rattle.spec_files.specs.BlockAnswers.{file_view}
 use Rattle.spec_files.specs.Prints.{Prints}
+use Rattle.spec_files.proofs.Whole.{room_of}
 use Rattle.spec_parser.specs.Trees.{spec_view}
 use Rattle.plain_runs.specs.Alone.{IsOfFile, IsOfPrint, prints}
 use Rattle.plain_runs.proofs.Ending.{no_refusal, of_reading}
@@ -41,3 +42,6 @@ returns-clause-untouched g c =
     let all = permutations_of spec in
     let failed = g.W.Sink.failed c.print_all.new.out || g.N.Sink.failed c.print_all.new.notes in
     IfErr-weaker c.print_all.result (IsOfPrint spec blocks all failed) _ (λ e is refusal. absurd (no_refusal spec blocks all failed e is refusal)) c.print_all.ensures.faults
+
+pub returns-clause-room : goal.returns-clause-room
+returns-clause-room g c = λ _. room_of c.args.bytes.now (file_view c.in_ok-file.file) c.in_ok-file.ensures.ok

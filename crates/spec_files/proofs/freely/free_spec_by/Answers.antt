@@ -22,6 +22,7 @@ returns g c =
       begun = of_file (λ file. Begun (FileSaysFreely file) wo wn eo en) c.run_file_freely.ensures.begun;
       memory = c.run_file_freely.ensures.memory;
       broken = c.run_file_freely.ensures.broken;
+      unbroken = c.run_file_freely.ensures.unbroken;
       read = search rules;
       unread = search rules;
       write = c.run_file_freely.ensures.write;

@@ -1,7 +1,7 @@
 use Rattle.std.proofs.Common.{◌≡◌, ◌+◌, ◌-◌, ap, length}
 use Rattle.report_lines.specs.declared.history.RunState.{RunState}
 use Rattle.report_lines.specs.SoFar.{LinesSoFar, IsReportSoFar, IsAt}
-use Rattle.report_lines.specs.Walk.{report_from}
+use Rattle.report_lines.specs.Walk.{walked_from}
 use Rattle.report_lines.proofs.Keeping.{both, tells_next, tells_over}
 use Rattle.report_lines.proofs.lines_so_far.LinesSoFar.go_on.Goals as goal
 
@@ -12,7 +12,7 @@ returns-in_ok-launch-in-Due-clause-report c =
     let mid = c.launch.new.self in
     let new = c.arrive-in-Due.new.self in
     both c.arrive-in-Due.result
-    (λ (s : RunState). report_from run l (length run.entries - l) l mid.lines ≡ record { lines = new.lines; state = s })
+    (λ (s : RunState). walked_from run l (length run.entries - l) l mid.lines ≡ record { lines = new.lines; state = s })
     (λ (s : RunState). IsAt run l new.launched s)
     (λ (s : RunState). IsReportSoFar run (c.args.count + 1) new s)
     (λ s reported at. tells_next run c.args.count c.in-Due.field-0 l c.args.self.now mid new c.args.state s c.requires.report c.in-Due.is c.in_ok-launch-in-Due.ensures (ap (λ (t : LinesSoFar). t.launched) c.arrive.view_is) reported at)

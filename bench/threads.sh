@@ -1,0 +1,35 @@
+#!/usr/bin/env bash
+# Refuses the built program the start of a thread: bench/threads.sh [PROGRAM]. Build it first: ./build
+# It may map as much as the run of one session needs, and 16 MiB more, in which the stacks of 60 sessions have no room: it has to end with the line of R10 and status 3, with the first line
+# alone printed. Where it may map as much as it likes the same file has to run.
+set -eu
+here=$(cd "$(dirname "$0")/.." && pwd)
+program=${1:-$here/crates/isolationtester/out/isolationtester}
+room=$(mktemp -d)
+trap 'rm -rf "$room"' EXIT
+
+# spec SESSIONS: a file of so many sessions of one step each, all of which stand in its permutation
+spec() {
+  seq "$1" | sed "s/.*/session s& step a& { SELECT &; }/"
+  echo "permutation $(seq -s ' ' -f 'a%g' "$1")"
+}
+
+# says KIBIBYTES SESSIONS: runs such a file where no more may be mapped than that, and keeps the status
+says() {
+  status=0
+  spec "$2" > "$room/spec"
+  (ulimit -v "$1" && exec "$program" < "$room/spec" > "$room/out" 2> "$room/err") || status=$?
+}
+
+least=8192
+while says $least 1; [ "$status" -ne 0 ]; do
+  least=$((least + 1024))
+  [ $least -lt 1048576 ] || { echo "not even one session runs in a gibibyte: $(cat "$room/err")"; exit 1; }
+done
+says $((least + 16384)) 60
+[ "$status" -eq 3 ] || { echo "a refused thread: status $status"; exit 1; }
+cmp "$room/out" - <<< 'Parsed test spec with 60 sessions'
+cmp "$room/err" - <<< 'isolationtester: R10 Threads'
+says unlimited 60
+[ "$status" -eq 0 ] || { echo "60 sessions: status $status, $(cat "$room/err")"; exit 1; }
+echo "a thread's start that is refused ends the run as R10, with status 3"
