@@ -61,7 +61,10 @@ block_given session block end (item ∷ items) runs =
 
 -- behind so many orders the places of orders are those of the rest
 pub start_behind : (xs zs : List HistItem) (j : ℕ) → segment_start (xs ++ zs) (length (given xs) + j) ≡ length xs + segment_start zs j
-start_behind [] zs j = refl
+start_behind [] zs j =
+    let count : length (given []) + j ≡ j = omega arith in
+    let same : segment_start zs j ≡ length {A = HistItem} [] + segment_start zs j = omega arith in
+    ap (segment_start zs) count ∙ same
 start_behind (x ∷ xs) zs j = by (start_behind xs zs j) (is_order x.event) refl where
   on : ℕ → ℕ
   on k = segment_start (xs ++ zs) k

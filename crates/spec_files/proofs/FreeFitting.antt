@@ -22,7 +22,7 @@ use Rattle.permutation_plans.specs.FreeLaunches.{FreeLaunches, scripts_of}
 use Rattle.permutation_plans.specs.FreeRegular.{given, events_of, launches_in, script_events, AreGiven, between, items_of, ends_each, EachEnds, AreScriptsGiven, IsWhole, IsStopped, IfWell, FitsFrom, FreeFits}
 use Rattle.permutation_plans.proofs.Replied.{AllEndSo, EndsSo, legal_ends}
 use Rattle.spec_files.specs.FreeRuns.{pair_of}
-use Rattle.spec_files.proofs.FreeBlocks.{given_append, is_given, is_step, block_given, Begins, turns_begin, middle, segment_is, ended_reply, well, ill, stopped}
+use Rattle.spec_files.proofs.FreeBlocks.{given_append, given_order, given_none, is_given, is_step, block_given, Begins, turns_begin, middle, segment_is, ended_reply, well, ill, stopped}
 
 -- ---- the setups
 
@@ -235,11 +235,13 @@ events_are : (session : ℕ) (items : List HistItem) → events_of session (give
 events_are session [] = refl
 events_are session (i ∷ is) = by (events_are session is) (is_order i.event) (session_of i.event == session) refl refl where
   by : events_of session (given is) ≡ given (items_of session is) → (o s : Bool) → is_order i.event ≡ o → (session_of i.event == session) ≡ s
-      → events_of session (cond (is_order i.event) (i.event ∷ given is) (given is)) ≡ given (cond (session_of i.event == session) (i ∷ items_of session is) (items_of session is))
-  by rest true true a b = rw a (rw b (ap (λ (c : Bool). cond c (i.event ∷ given (items_of session is)) (given (items_of session is))) a ∙ ap (λ (w : List Event). i.event ∷ w) (sym rest)))
-  by rest true false a b = rw a (rw b rest)
-  by rest false true a b = rw a (rw b (ap (λ (c : Bool). cond c (i.event ∷ given (items_of session is)) (given (items_of session is))) a ∙ sym rest))
-  by rest false false a b = rw a (rw b rest)
+      → events_of session (cond o (i.event ∷ given is) (given is)) ≡ given (cond s (i ∷ items_of session is) (items_of session is))
+  by rest true true a b =
+      given_order (session_of i.event == session) i.event (events_of session (given is)) b
+      ∙ (ap (λ (w : List Event). i.event ∷ w) rest ∙ sym (given_order (is_order i.event) i.event (given (items_of session is)) a))
+  by rest true false a b = given_none (session_of i.event == session) i.event (events_of session (given is)) b ∙ rest
+  by rest false true a b = rest ∙ sym (given_none (is_order i.event) i.event (given (items_of session is)) a)
+  by rest false false a b = rest
 
 none_more : (n : ℕ) → n + 0 ≡ n
 none_more n = omega arith

@@ -1,4 +1,4 @@
-use Rattle.std.proofs.Common.{◌≡◌, ◌+◌, ◌-◌, ◌*◌, ◌/◌, ◌^◌, ◌<◌, ◌≤◌, ◌⊎◌, ℕ, min, max, inl, inr, ap, sym, subst, arith, le_trans, div-mul-le_self}
+use Rattle.std.proofs.Common.{◌≡◌, ◌+◌, ◌-◌, ◌*◌, ◌/◌, ◌^◌, ◌<◌, ◌≤◌, ◌⊎◌, ℕ, min, max, inl, inr, refl, sym, subst, arith, le_trans, div-mul-le_self}
 use Rattle.std.proofs.Math.Nat.{mul-le-mul_right}
 use Rattle.std.proofs.lemmas.Bool.{cases_lt}
 use Rattle.spec_files.proofs.ahead.at_a_time.Goals as goal
@@ -14,4 +14,6 @@ few_threads sessions each fit most each_is fit_is most_is (inl several) =
     inr (le_trans (subst (λ (n : ℕ). most * n ≤ fit * each) same (mul-le-mul_right each fewer)) all)
 
 pub returns-clause-threads : goal.returns-clause-threads
-returns-clause-threads c = few_threads c.args.sessions c.each c.fit _ c.saturating_add-each.ensures c.fit.is c.clamp.ensures.value (cases_lt 1 c.fit)
+returns-clause-threads c =
+    let each = c.saturating_add-each.result in
+    few_threads c.args.sessions each (40 / each) c.clamp.result c.saturating_add-each.ensures refl c.clamp.ensures.value (cases_lt 1 (40 / each))
