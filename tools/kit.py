@@ -427,10 +427,11 @@ def lines_tried():
     return {name: it for name, it in lines.items() if os.path.isdir(rooms[name])}
 
 
-def line_of_due(crate):
-    """Returns the line that says that the wrong bodies of a crate are due to be tried on the text as it stands, with the state on which they were tried last."""
-    last = re.search(r"state (\w+)$", lines_tried().get(crate.name, ""))
-    return f"{crate.name}: {len(edits_in(crate, 'wrong_bodies'))} due, tried last on state {last[1] if last else 'none'}"
+def line_of_due(crate, room="wrong_bodies"):
+    """Returns the line that says that the wrong bodies of a crate in this room are due to be tried on the text as it stands, with the state on which they were tried last."""
+    name = crate.name + " by tests" * room.endswith("by_tests")
+    last = re.search(r"state (\w+)$", lines_tried().get(name, ""))
+    return f"{name}: {len(edits_in(crate, room))} due, tried last on state {last[1] if last else 'none'}"
 
 
 def untried(among):
@@ -439,13 +440,13 @@ def untried(among):
     return [it for it in among if edits_in(it, "wrong_bodies") and tried.get(it.name) not in (line_of(it), line_of_due(it))]
 
 
-def waiting(among):
-    """Returns the crates whose wrong bodies are said to be due."""
+def waiting(among, room="wrong_bodies"):
+    """Returns the crates whose wrong bodies in this room are said to be due."""
     tried = lines_tried()
-    return [it for it in among if edits_in(it, "wrong_bodies") and tried.get(it.name) == line_of_due(it)]
+    return [it for it in among if edits_in(it, room) and line_of_due(it, room) in tried.values()]
 
 
 def untold(among):
     """Returns the crates of whose wrong bodies those that only tests tell were not all tried and told on the text as it stands."""
     tried = lines_tried()
-    return [it for it in among if edits_in(it, "wrong_bodies/by_tests") and tried.get(f"{it.name} by tests") != line_of_told(it)]
+    return [it for it in among if edits_in(it, "wrong_bodies/by_tests") and tried.get(f"{it.name} by tests") not in (line_of_told(it), line_of_due(it, "wrong_bodies/by_tests"))]

@@ -1,4 +1,4 @@
--- What `settle` answers, and the locks after it.
+-- To be believed. What `settle` answers, and the locks after it.
 use Rattle.std.specs.Prelude.{◌≡◌, Bool, true, false, List, None, if◌then◌else◌}
 use Rattle.row_versions.specs.declared.names.TxId.{TxId}
 use Rattle.row_versions.specs.Log.{Content}
