@@ -38,7 +38,8 @@ impl Model for KeyIndex {
 #[derive(Drop)]
 pub enum Found {
     Free,
-    Taken,
+    /// In this version.
+    Taken(Seen),
     Held(SmallVec<TxId, 4>),
 }
 
