@@ -1,52 +1,62 @@
--- What is held, lock by lock: who stands against a request, and what writes, locks and ends change.
-use Rattle.std.proofs.Common.{◌≡◌, refl, sym, ◌∙◌, ap, subst, inl, inr, Bool, true, false, cond, not, ◌||◌, ◌&&◌, ◌==◌, ℕ, zero, suc, set, List, [], ◌∷◌, ◌++◌, length, map, filter}
-use Rattle.std.specs.Prelude.{Some, slice_get}
-use Rattle.std.specs.List.{list_any}
+-- What is held, lock by lock: who stands against a request, and what locks and ends change.
+use Rattle.std.proofs.Common.{◌≡◌, refl, sym, ◌∙◌, ap, subst, inl, inr, Bool, true, false, cond, not, ◌||◌, ◌&&◌, ◌==◌, ℕ, List, [], ◌∷◌, map, filter}
 use Rattle.std.proofs.lemmas.Bool.{eqb-true, eq-eqb}
-use Rattle.std.proofs.lemmas.List.Folds.{list_any-append}
 use Rattle.std.proofs.lemmas.Map.Views.{any-filter_same}
+use denote.Enum.Bare.{same_true, true_same}
 use Rattle.row_versions.specs.declared.names.TxId.{TxId}
 use Rattle.row_versions.specs.declared.names.RowId.{RowId}
-use Rattle.row_versions.specs.declared.write.Write.{Write}
-use Rattle.row_versions.specs.declared.write.Fate.{Fate}
-use Rattle.row_versions.specs.declared.write.Fate.TheVariants.{Open, RolledBack, Committed}
-use Rattle.row_versions.specs.Log.{Content, next_tx, after_begin, after_end, is_open_fate, is_open}
-use Rattle.row_locks.specs.declared.held.Strength.{Strength}
-use Rattle.row_locks.specs.declared.held.Strength.TheVariants.{Share, Exclusive}
+use Rattle.sql_trees.specs.declared.stmt.Strength.{Strength}
+use Rattle.sql_trees.specs.declared.stmt.Strength.TheVariants.{KeyShare, Share, NoKeyUpdate, Update}
+use Rattle.sql_trees.specs.contracts.stmt.Strength.{the_type as the_strength}
 use Rattle.row_locks.specs.declared.held.Held.{Held}
 use Rattle.row_versions.specs.Members.{has, same_tx}
 use Rattle.row_locks.specs.Inner.Searching.{is_against}
-use Rattle.row_locks.specs.Held.{conflicts, holders_against, same_strength, same_lock, holds, IsReleased, lock_of_write, held_locks}
-use Rattle.row_locks.specs.Laws.{SameLocks, SameButFor, BlockersHoldInConflict, BlockersByWhatIsHeld, DoingAddsOnlyTheDoer, EndsLetGo, BeginningsHoldNothing}
+use Rattle.row_locks.specs.Held.{conflicts, holders_against, same_strength, same_lock, holds}
+use Rattle.row_locks.specs.Laws.{SameLocks, SameButFor, ConflictsGoBothWays, BlockersHoldInConflict, BlockersByWhatIsHeld, DoingAddsOnlyTheDoer, LocksAreHeld, EndsLetGo}
 use Rattle.row_locks.proofs.Reaching.{or_cases, or_left, or_right, and_both, both_and, same_is, is_same}
 use Rattle.row_locks.proofs.Waiting.{bool_is}
 
-strength_is : (a b : Strength) → same_strength a b ≡ true → a ≡ b
-strength_is Share Share e = refl
-strength_is Share Exclusive e = cc
-strength_is Exclusive Share e = cc
-strength_is Exclusive Exclusive e = refl
+pub strength_is : (a b : Strength) → same_strength a b ≡ true → a ≡ b
+strength_is a b e = same_true the_strength tt a b e
 
-is_strength : (a : Strength) → same_strength a a ≡ true
-is_strength Share = refl
-is_strength Exclusive = refl
+pub is_strength : (a : Strength) → same_strength a a ≡ true
+is_strength a = true_same the_strength a a refl
+
+-- the table is the same in both directions
+pub conflicts_both_ways : ConflictsGoBothWays
+conflicts_both_ways KeyShare KeyShare = refl
+conflicts_both_ways KeyShare Share = refl
+conflicts_both_ways KeyShare NoKeyUpdate = refl
+conflicts_both_ways KeyShare Update = refl
+conflicts_both_ways Share KeyShare = refl
+conflicts_both_ways Share Share = refl
+conflicts_both_ways Share NoKeyUpdate = refl
+conflicts_both_ways Share Update = refl
+conflicts_both_ways NoKeyUpdate KeyShare = refl
+conflicts_both_ways NoKeyUpdate Share = refl
+conflicts_both_ways NoKeyUpdate NoKeyUpdate = refl
+conflicts_both_ways NoKeyUpdate Update = refl
+conflicts_both_ways Update KeyShare = refl
+conflicts_both_ways Update Share = refl
+conflicts_both_ways Update NoKeyUpdate = refl
+conflicts_both_ways Update Update = refl
 
 row_is : (a b : RowId) → (a.0 == b.0) ≡ true → a ≡ b
 row_is a b h = let mk : ℕ → RowId = λ n. record { 0 = n } in ap mk (eqb-true a.0 b.0 h)
 
-lock_tx : (a b : Held) → same_lock a b ≡ true → a.tx ≡ b.tx
+pub lock_tx : (a b : Held) → same_lock a b ≡ true → a.tx ≡ b.tx
 lock_tx a b e =
     let p = and_both ((a.row.0 == b.row.0) && same_tx a.tx b.tx) (same_strength a.strength b.strength) e in
     same_is a.tx b.tx (and_both (a.row.0 == b.row.0) (same_tx a.tx b.tx) p.0).1
 
-lock_is : (a b : Held) → same_lock a b ≡ true → a ≡ b
+pub lock_is : (a b : Held) → same_lock a b ≡ true → a ≡ b
 lock_is a b e =
     let p = and_both ((a.row.0 == b.row.0) && same_tx a.tx b.tx) (same_strength a.strength b.strength) e in
     let q = and_both (a.row.0 == b.row.0) (same_tx a.tx b.tx) p.0 in
     let mk : RowId → TxId → Strength → Held = λ r t s. record { row = r; tx = t; strength = s } in
     ap (λ r. mk r a.tx a.strength) (row_is a.row b.row q.0) ∙ ap (λ t. mk b.row t a.strength) (same_is a.tx b.tx q.1) ∙ ap (λ s. mk b.row b.tx s) (strength_is a.strength b.strength p.1)
 
-is_lock : (a : Held) → same_lock a a ≡ true
+pub is_lock : (a : Held) → same_lock a a ≡ true
 is_lock a = both_and ((a.row.0 == a.row.0) && same_tx a.tx a.tx) (same_strength a.strength a.strength) (both_and (a.row.0 == a.row.0) (same_tx a.tx a.tx) (eq-eqb a.row.0 a.row.0 refl) (is_same a.tx)) (is_strength a.strength)
 
 -- what is left where a transaction's locks are taken out
@@ -132,93 +142,19 @@ only_the_doer x old new same row tx s u ne =
     (less_against x new old (λ h other. sym (same h other)) row tx s u ne)
     (less_against x old new same row tx s u ne)
 
--- a lock is held by a write exactly where an open transaction made such a write
-written : (p : Write → Bool) (log : List Write) (h : Held) → holds (map lock_of_write (filter p log)) h ≡ list_any (λ (w : Write). p w && same_lock (lock_of_write w) h) log
-written p [] h = refl
-written p (w ∷ log) h = elim (p w) as (λ b. holds (map lock_of_write (cond b (w ∷ filter p log) (filter p log))) h ≡ ((b && same_lock (lock_of_write w) h) || list_any (λ (v : Write). p v && same_lock (lock_of_write v) h) log)) [
-  | true ↦ ap (λ v. same_lock (lock_of_write w) h || v) (written p log h)
-  | false ↦ written p log h
-]
-
-held_is : (c : Content) (taken : List Held) (h : Held) → holds (held_locks c taken) h ≡ (holds taken h || list_any (λ (w : Write). is_open c.fates w.tx && same_lock (lock_of_write w) h) c.log)
-held_is c taken h =
-    list_any-append (λ (g : Held). same_lock g h) taken (map lock_of_write (filter (λ (w : Write). is_open c.fates w.tx) c.log))
-    ∙ ap (λ v. holds taken h || v) (written (λ (w : Write). is_open c.fates w.tx) c.log h)
-
-any_same : (p q : Write → Bool) → ((w : Write) → p w ≡ q w) → (log : List Write) → list_any p log ≡ list_any q log
-any_same p q same [] = refl
-any_same p q same (w ∷ log) = ap (λ v. v || list_any p log) (same w) ∙ ap (λ v. q w || v) (any_same p q same log)
-
-any_none : (p : Write → Bool) → ((w : Write) → p w ≡ false) → (log : List Write) → list_any p log ≡ false
-any_none p none [] = refl
-any_none p none (w ∷ log) = ap (λ v. v || list_any p log) (none w) ∙ any_none p none log
-
-and_same : (a b q : Bool) → (q ≡ true → a ≡ b) → (a && q) ≡ (b && q)
-and_same a b true same = ap (λ v. v && true) (same refl)
-and_same true true false same = refl
-and_same true false false same = refl
-and_same false true false same = refl
-and_same false false false same = refl
-
--- where the same transactions but x are open, those hold the same rows by their writes
-open_same : (c d : Content) (log : List Write) (x : TxId) (h : Held) → (h.tx ≡ x → ⊥) → ((t : TxId) → (t ≡ x → ⊥) → is_open d.fates t ≡ is_open c.fates t)
-    → list_any (λ (w : Write). is_open d.fates w.tx && same_lock (lock_of_write w) h) log ≡ list_any (λ (w : Write). is_open c.fates w.tx && same_lock (lock_of_write w) h) log
-open_same c d log x h ne same =
-    any_same (λ (w : Write). is_open d.fates w.tx && same_lock (lock_of_write w) h) (λ (w : Write). is_open c.fates w.tx && same_lock (lock_of_write w) h)
-    (λ w. and_same (is_open d.fates w.tx) (is_open c.fates w.tx) (same_lock (lock_of_write w) h) (λ e. same w.tx (λ k. ne (sym (lock_tx (lock_of_write w) h e) ∙ k)))) log
-
-begun_same : (fs : List Fate) (j : ℕ) → (j ≡ length fs → ⊥) → is_open_fate (slice_get (fs ++ Open ∷ []) j) ≡ is_open_fate (slice_get fs j)
-begun_same [] zero new = absurd (new refl)
-begun_same [] (suc j) new = refl
-begun_same (f ∷ fs) zero new = refl
-begun_same (f ∷ fs) (suc j) new = begun_same fs j (λ e. new (ap suc e))
-
-pub beginnings_hold_nothing : BeginningsHoldNothing
-beginnings_hold_nothing c taken h ne =
-    let mk : ℕ → TxId = λ n. record { 0 = n } in
-    held_is (after_begin c) taken h
-    ∙ ap (λ v. holds taken h || v) (open_same c (after_begin c) c.log (next_tx c) h ne (λ t other. begun_same c.fates t.0 (λ e. other (ap mk e))))
-    ∙ sym (held_is c taken h)
-
-set_other : (fs : List Fate) (i j : ℕ) (f : Fate) → (j ≡ i → ⊥) → slice_get (set fs i f) j ≡ slice_get fs j
-set_other [] zero j f h = refl
-set_other [] (suc i) j f h = refl
-set_other (y ∷ ys) zero zero f h = absurd (h refl)
-set_other (y ∷ ys) zero (suc j) f h = refl
-set_other (y ∷ ys) (suc i) zero f h = refl
-set_other (y ∷ ys) (suc i) (suc j) f h = set_other ys i j f (λ e. h (ap suc e))
-
-set_here : (fs : List Fate) (i : ℕ) (f : Fate) → is_open_fate (Some f) ≡ false → is_open_fate (slice_get (set fs i f) i) ≡ false
-set_here [] zero f h = refl
-set_here [] (suc i) f h = refl
-set_here (y ∷ ys) zero f h = h
-set_here (y ∷ ys) (suc i) f h = set_here ys i f h
-
-is_ended : (fate : Fate) → (fate ≡ Open → ⊥) → is_open_fate (Some fate) ≡ false
-is_ended Open ne = absurd (ne refl)
-is_ended RolledBack ne = refl
-is_ended (Committed k) ne = refl
-
-ended : (c : Content) (taken after : List Held) (x : TxId) (fate : Fate) → is_open_fate (Some fate) ≡ false → IsReleased taken x after → IsReleased (held_locks c taken) x (held_locks (after_end c x fate) after)
-ended c taken after x fate closed release h =
-    let d = after_end c x fate in
-    let by_write : List Fate → Write → Bool = λ fates w. is_open fates w.tx && same_lock (lock_of_write w) h in
-    elim (bool_is (same_tx h.tx x)) [
-      | inl e ↦
-          let is = same_is h.tx x e in
-          let gone : holds after h ≡ false = release h ∙ ap (λ v. not v && holds taken h) e in
-          let none : list_any (by_write d.fates) c.log ≡ false = any_none (by_write d.fates) (λ w. and_same (is_open d.fates w.tx) false (same_lock (lock_of_write w) h)
-          (λ k. subst (λ t. is_open d.fates t ≡ false) (sym (lock_tx (lock_of_write w) h k ∙ is)) (set_here c.fates x.0 fate closed))) c.log in
-          held_is d after h ∙ ap (λ v. v || list_any (by_write d.fates) c.log) gone ∙ none ∙ sym (ap (λ v. not v && holds (held_locks c taken) h) e)
-      | inr e ↦
-          let other : h.tx ≡ x → ⊥ = λ k. let m : same_tx h.tx x ≡ true = subst (λ t. same_tx h.tx t ≡ true) k (is_same h.tx) in absurd (cc) in
-          let kept : holds after h ≡ holds taken h = release h ∙ ap (λ v. not v && holds taken h) e in
-          let mk : ℕ → TxId = λ n. record { 0 = n } in
-          let same = open_same c d c.log x h other (λ t ne. ap is_open_fate (set_other c.fates x.0 t.0 fate (λ k. ne (ap mk k)))) in
-          held_is d after h ∙ ap (λ v. v || list_any (by_write d.fates) c.log) kept ∙ ap (λ v. holds taken h || v) same ∙ sym (held_is c taken h) ∙ sym (ap (λ v. not v && holds (held_locks c taken) h) e)
-    ]
+-- a lock that was taken is held, and those of others are as before
+pub locks_held : LocksAreHeld
+locks_held held after h taken = (
+  taken h ∙ or_right (holds held h) (same_lock h h) (is_lock h),
+  λ g other. taken g ∙ no_more (holds held g) (same_lock h g) (λ e. other (sym (lock_tx h g e))),
+) where
+  no_more : (a b : Bool) → (b ≡ true → ⊥) → (a || b) ≡ a
+  no_more true b none = refl
+  no_more false true none = absurd (none refl)
+  no_more false false none = refl
 
 pub ends_let_go : EndsLetGo
-ends_let_go c taken after x fate ne release =
-    let all = ended c taken after x fate (is_ended fate ne) release in
-    (all, λ h other. all h ∙ ap (λ v. not v && holds (held_locks c taken) h) (other_tx h.tx x other))
+ends_let_go held after x release = (
+  λ h is. release h ∙ ap (λ v. not v && holds held h) (subst (λ t. same_tx h.tx t ≡ true) is (is_same h.tx)),
+  λ h other. release h ∙ ap (λ v. not v && holds held h) (other_tx h.tx x other),
+)

@@ -62,4 +62,3 @@ IsTaken old lock new = (h : Held) → holds new h ≡ (holds old h || same_lock 
 -- after a transaction let go, what the others held is held
 abbrev pub IsReleased : List Held → TxId → List Held → Type 0
 IsReleased old tx new = (h : Held) → holds new h ≡ (not (same_tx h.tx tx) && holds old h)
-

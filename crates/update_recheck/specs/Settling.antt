@@ -49,6 +49,6 @@ LocksAfter false old lock new = new ≡ old
 abbrev pub locks_after : Bool → List Held → Held → List Held
 locks_after taken held lock = if taken then with_lock held lock else held
 
--- memory is asked for to find who holds the row and to lock it: not where a row that is gone is passed over, nor where it can't be serialized
+-- memory is asked for to find those that it waits for, and to lock it: not where a row that is gone or held is passed over, nor where it isn't free or can't be serialized
 abbrev pub asks_for_memory : Content → List Held → List Waiting → Asked → Bool
 asks_for_memory c held waits ask = elim (target_outcome c held waits (record ask { condition = None })) [ Takes seen ↦ true | Waits ↦ true | Deadlocks ↦ true | other ↦ false ]

@@ -7,4 +7,4 @@ mod newest;
 mod target;
 
 pub use ask::{Ask, Settled};
-pub use target::settle;
+pub use target::{is_blocked, settle};

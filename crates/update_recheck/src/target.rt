@@ -1,5 +1,5 @@
 //! Settling one target row.
-ghost use Rattle.std.specs.Prelude.{◌≡◌, ◌≢◌, List, length, true, Err, IfOk, IfSome, OnOk, OnErr, option_map};
+ghost use Rattle.std.specs.Prelude.{◌≡◌, ◌≢◌, List, length, true, not, Err, IfOk, IfSome, OnOk, OnErr, option_map, if◌then◌else◌};
 ghost use Rattle.sql_values.specs.Expressions.{passes};
 ghost use Rattle.row_versions.specs.declared.names.TxId.{TxId};
 ghost use Rattle.row_locks.specs.Held.{IsTaken, with_lock};
@@ -7,7 +7,8 @@ ghost use Rattle.row_versions.specs.Members.{is_none_of};
 ghost use Rattle.row_locks.specs.Cycles.{closes};
 ghost use Rattle.update_recheck.specs.Asked.{Fits, asked};
 ghost use Rattle.update_recheck.specs.Outcome.{row_blockers, is_target_locked, target_outcome};
-ghost use Rattle.update_recheck.specs.Inner.Cases.{holders, is_held, is_locked, is_looked_at, outcome, rechecked};
+ghost use Rattle.update_recheck.specs.Outcome.Outcome.{Deadlocks, Waits as Waiting};
+ghost use Rattle.update_recheck.specs.Inner.Cases.{holders, is_waited_for, is_locked, is_looked_at, outcome, rechecked};
 ghost use Rattle.update_recheck.specs.Settling.{LocksAfter, locks_after, SameMembers, WaitsFor, asks_for_memory, lock_of, outcome_of};
 ghost use Rattle.update_recheck.specs.Inner.Stopping.{holders_stop};
 ghost use Rattle.update_recheck.specs.Inner.Found.{told, NewestIsWhole};
@@ -17,7 +18,7 @@ use crate::newest::{Newest, newest_version};
 use row_locks::{LockTable, Waits};
 use row_versions::{Seen, TxId, Versions};
 use smallvec::SmallVec;
-use sql_trees::Level;
+use sql_trees::{Level, Policy};
 use sql_values::{Row, ValueFault, passes};
 use std::alloc::{AllocError, Global};
 
@@ -46,7 +47,7 @@ pub fn settle<'t, V: Versions>(
     }
 }
 
-/// At Read Committed: waits for who holds the row, and then goes by its newest version.
+/// At Read Committed: who holds the row stops it, else it goes by its newest version.
 fn settle_read_committed<'t>(
     alloc: Global,
     locks: &mut LockTable,
@@ -75,7 +76,7 @@ fn settle_read_committed<'t>(
     }
 }
 
-/// At Repeatable Read: a changed row is lost, and for who holds an unchanged one it waits.
+/// At Repeatable Read: a changed row is lost, and who holds an unchanged one stops it.
 fn settle_repeatable_read<'t>(
     locks: &mut LockTable,
     waits: &Waits,
@@ -107,23 +108,39 @@ fn stopped<'t>(
 ) -> Result<Option<Settled<'t>>, AllocError>
     ensures stop { IfOk result (λ stop. option_map outcome_of stop ≡ holders_stop (holders locks.now waits.now (asked ask.now))) }
     ensures blockers { IfOk result (λ stop. IfSome stop (λ s. WaitsFor (row_blockers locks.now (asked ask.now)) s)) }
-    ensures memory { OnErr result (is_held (holders locks.now waits.now (asked ask.now)) ≡ true) }
+    ensures memory { OnErr result (is_waited_for (holders locks.now waits.now (asked ask.now)) ≡ true) }
 {
-    let found = locks.against(ask.seen.row, ask.tx, ask.strength)?;
-    if is_nobody(&found) {
+    if !is_blocked(locks, ask) {
         return Ok(None);
     }
-    if is_deadlock(waits, ask.tx, &found)? {
-        return Ok(Some(Settled::Deadlock));
+    match ask.policy {
+        Policy::Wait => Ok(Some(waited_for(locks, waits, ask)?)),
+        Policy::NoWait => Ok(Some(Settled::NotFree)),
+        Policy::SkipLocked => Ok(Some(Settled::Skip)),
     }
-    Ok(Some(Settled::Wait(found)))
 }
 
-/// Whether nobody was found.
-fn is_nobody(found: &SmallVec<TxId, 4>) -> bool
-    ensures { (others : List TxId) → SameMembers found.now.items others → result ≡ is_none_of others }
+/// Whether others hold the target in conflict. It takes no memory.
+pub fn is_blocked(locks: &LockTable, ask: &Ask<'_, '_>) -> bool
+    ensures { result ≡ not (is_none_of (row_blockers locks.now (asked ask.now))) }
 {
-    found.is_empty()
+    locks.is_blocked(ask.seen.row, ask.tx, ask.strength)
+}
+
+/// What comes of a target that waits for those who hold it: a wait, unless it would close a cycle.
+fn waited_for<'t>(
+    locks: &LockTable,
+    waits: &Waits,
+    ask: &Ask<'_, 't>,
+) -> Result<Settled<'t>, AllocError>
+    ensures outcome { IfOk result (λ s. outcome_of s ≡ (if closes waits.now (asked ask.now).tx (row_blockers locks.now (asked ask.now)) then Deadlocks else Waiting)) }
+    ensures blockers { IfOk result (λ s. WaitsFor (row_blockers locks.now (asked ask.now)) s) }
+{
+    let found = locks.against(ask.seen.row, ask.tx, ask.strength)?;
+    if is_deadlock(waits, ask.tx, &found)? {
+        return Ok(Settled::Deadlock);
+    }
+    Ok(Settled::Wait(found))
 }
 
 /// Whether a wait of the transaction for those would close a cycle.
