@@ -5,6 +5,7 @@ pub mod Ends
 pub mod Even
 pub mod Filling
 pub mod Fronts
+pub mod KeysLeft
 pub mod Selecting
 pub mod Shown
 pub mod Counting

@@ -2,6 +2,7 @@
 pub mod Answers
 pub mod Assigned
 pub mod Fronts
+pub mod Leaving
 pub mod Ordering
 pub mod Parts
 pub mod Undefined

@@ -5,6 +5,7 @@ mod answer;
 mod assigned;
 mod keys;
 mod known;
+mod leaving;
 mod new_row;
 mod ordering;
 mod passing;
@@ -16,6 +17,7 @@ mod values_check;
 
 pub use answer::{result_of, row_values};
 pub use assigned::{AssignedColumn, AssignedColumns, columns_assigned, columns_set};
+pub use leaving::leaves_all;
 pub use new_row::new_values;
 pub use ordering::taken_places;
 pub use passing::passing_places;
