@@ -1,11 +1,10 @@
 -- To be believed. What a statement does with rows: INSERT with those of its VALUES, and UPDATE, DELETE and a locking SELECT with their targets
 -- (PostgreSQL manual, 13.2.1 and 13.3.2, and the pages of the statements).
-use Rattle.std.specs.Prelude.{ℕ, ◌==◌, Bool, true, false, not, ◌||◌, List, ◌∷◌, ◌++◌, length, map, flat_map, drop, Option, Some, None, option_map, option_and_then, unwrap_or, slice_get, filter_map, Result, Ok, Err, if◌then◌else◌, []}
+use Rattle.std.specs.Prelude.{ℕ, ◌==◌, Bool, false, not, ◌||◌, List, ◌∷◌, length, map, flat_map, drop, Option, Some, None, option_map, option_and_then, unwrap_or, slice_get, filter_map, Result, Ok, Err, if◌then◌else◌, []}
 use Rattle.std.specs.List.{list_any}
 use Rattle.std.specs.Option.{option_map_or, option_or}
 use Rattle.std.specs.Result.{result_unwrap_or}
 use Rattle.sql_trees.specs.declared.stmt.Level.TheVariants.{ReadCommitted, RepeatableRead}
-use Rattle.sql_trees.specs.declared.stmt.Lock.{Lock}
 use Rattle.sql_trees.specs.declared.stmt.Strength.{Strength}
 use Rattle.sql_trees.specs.declared.stmt.Strength.TheVariants.{NoKeyUpdate, Update}
 use Rattle.sql_trees.specs.declared.stmt.Policy.{Policy}

@@ -1,5 +1,5 @@
 -- To be believed. A statement is run: it begins, or goes on where it waits, by what its session's transaction is (PostgreSQL manual, the pages of the statements, and 13.2).
-use Rattle.std.specs.Prelude.{ℕ, ◌++◌, Bool, true, false, List, ◌∷◌, length, flat_map, nat_lt, Option, Some, None, option_map, option_to_list, unwrap_or, Ok, Err, if◌then◌else◌, []}
+use Rattle.std.specs.Prelude.{ℕ, ◌++◌, Bool, true, false, List, ◌∷◌, length, flat_map, nat_lt, Option, Some, None, option_map, unwrap_or, Ok, Err, if◌then◌else◌, []}
 use Rattle.std.specs.List.{list_any}
 use Rattle.std.specs.Option.{option_map_or, option_or}
 use Rattle.sql_trees.specs.declared.stmt.Level.TheVariants.{ReadCommitted}
@@ -36,8 +36,8 @@ abbrev pub fault_in : List ColumnTree → StmtTree → Option StmtFault
 fault_in columns (Inserts i) = elim (columns_assigned columns i.columns) [
   | Err column ↦ Some (NoColumnOf column i.table)
   | Ok to ↦
-      option_or (option_or (undefined_in [] (flat_map (λ row. row) i.rows)) (undefined_in (cols_of columns) (returned_exprs i.returning)))
-      (if list_any (λ row. nat_lt (length to) (length row)) i.rows then Some TooManyValues else None)
+      option_or (undefined_in [] (flat_map (λ row. row) i.rows)) (option_or (undefined_in (cols_of columns) (returned_exprs i.returning))
+      (if list_any (λ row. nat_lt (length to) (length row)) i.rows then Some TooManyValues else None))
 ]
 fault_in columns (Updates u) = elim (columns_set columns u.sets) [ Err column ↦ Some (NoColumnOf column u.table) | Ok to ↦ undefined_in (cols_of columns) (update_exprs u) ]
 fault_in columns (Deletes d) = undefined_in (cols_of columns) (delete_exprs d)

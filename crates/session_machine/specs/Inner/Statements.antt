@@ -1,5 +1,5 @@
 -- Statements kind by kind: what the code's inner functions do, and what the proofs go by. `proofs/ByKind` shows that it is the same.
-use Rattle.std.specs.Prelude.{ℕ, ◌+◌, ◌++◌, ℤ, Bool, true, false, List, ◌∷◌, length, drop, flat_map, nat_lt, Option, Some, None, option_map, option_to_list, unwrap_or, slice_get, Result, Ok, Err, if◌then◌else◌, []}
+use Rattle.std.specs.Prelude.{ℕ, ◌+◌, ◌++◌, ℤ, Bool, true, false, List, ◌∷◌, length, drop, flat_map, nat_lt, Option, Some, None, option_map, unwrap_or, slice_get, Result, Ok, Err, if◌then◌else◌, []}
 use Rattle.std.specs.List.{list_any}
 use Rattle.std.specs.Option.{option_map_or, option_or}
 use Rattle.std.specs.Result.{result_unwrap_or}
