@@ -21,7 +21,7 @@ use Rattle.update_recheck.specs.Outcome.{Version, version_at, target_outcome}
 use Rattle.update_recheck.specs.Inner.Stopping.{version_of}
 use Rattle.update_recheck.proofs.Cases.{outcome_is}
 use Rattle.update_recheck.specs.Inner.Cases.{Holders, rechecked, outcome, holders}
-use Rattle.update_recheck.specs.Inner.Cases.Holders.{Nobody, Others, OthersInACycle}
+use Rattle.update_recheck.specs.Inner.Cases.Holders.{Nobody, Others, OthersInACycle, OthersAtNoWait, OthersSkipped}
 use Rattle.update_recheck.specs.Outcome.Version.{Same, Gone, Newer}
 use Rattle.update_recheck.specs.Outcome.Outcome.{Takes}
 use Rattle.session_laws.proofs.Fitting.{its_values}
@@ -43,17 +43,25 @@ gone_not : (l : Level) (found s : Seen) (h : Holders) → outcome l found h Gone
 gone_not ReadCommitted found s Nobody e = cc
 gone_not ReadCommitted found s Others e = cc
 gone_not ReadCommitted found s OthersInACycle e = cc
+gone_not ReadCommitted found s OthersAtNoWait e = cc
+gone_not ReadCommitted found s OthersSkipped e = cc
 gone_not RepeatableRead found s Nobody e = cc
 gone_not RepeatableRead found s Others e = cc
 gone_not RepeatableRead found s OthersInACycle e = cc
+gone_not RepeatableRead found s OthersAtNoWait e = cc
+gone_not RepeatableRead found s OthersSkipped e = cc
 
 same_is : (l : Level) (found s : Seen) (h : Holders) → outcome l found h Same ≡ Takes s → found ≡ s
 same_is ReadCommitted found s Nobody e = same_taken e
 same_is ReadCommitted found s Others e = cc
 same_is ReadCommitted found s OthersInACycle e = cc
+same_is ReadCommitted found s OthersAtNoWait e = cc
+same_is ReadCommitted found s OthersSkipped e = cc
 same_is RepeatableRead found s Nobody e = same_taken e
 same_is RepeatableRead found s Others e = cc
 same_is RepeatableRead found s OthersInACycle e = cc
+same_is RepeatableRead found s OthersAtNoWait e = cc
+same_is RepeatableRead found s OthersSkipped e = cc
 
 rechecked_is : (newer s : Seen) (r : Result Bool ValueFault) → rechecked newer r ≡ Takes s → newer ≡ s
 rechecked_is newer s (Ok true) e = same_taken e
@@ -64,9 +72,13 @@ newer_is : (l : Level) (found newer s : Seen) (h : Holders) (r : Result Bool Val
 newer_is ReadCommitted found newer s Nobody r e = rechecked_is newer s r e
 newer_is ReadCommitted found newer s Others r e = cc
 newer_is ReadCommitted found newer s OthersInACycle r e = cc
+newer_is ReadCommitted found newer s OthersAtNoWait r e = cc
+newer_is ReadCommitted found newer s OthersSkipped r e = cc
 newer_is RepeatableRead found newer s Nobody r e = cc
 newer_is RepeatableRead found newer s Others r e = cc
 newer_is RepeatableRead found newer s OthersInACycle r e = cc
+newer_is RepeatableRead found newer s OthersAtNoWait r e = cc
+newer_is RepeatableRead found newer s OthersSkipped r e = cc
 
 pub takes_version : (c : Content) (held : List Held) (waits : List Waiting) (a : Asked) (s : Seen) → target_outcome c held waits a ≡ Takes s → IsVersion c a.seen.row s
 takes_version c held waits a s h = at_newest (newest_of c a.seen.row a.tx) refl (sym (outcome_is c held waits a) ∙ h) where

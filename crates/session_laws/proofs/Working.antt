@@ -4,12 +4,12 @@ use Rattle.std.proofs.lemmas.Option.{slice_get_within}
 use Rattle.std.specs.Prelude.{Option, Some, None, slice_get, Ok}
 use Rattle.sql_trees.specs.declared.kind.Kind.TheVariants.{Int as Integer}
 use Rattle.sql_trees.specs.declared.stmt.Level.TheVariants.{ReadCommitted, RepeatableRead}
+use Rattle.sql_trees.specs.declared.stmt.Strength.TheVariants.{Update}
 use Rattle.sql_values.specs.declared.value.Value.{Value}
 use Rattle.row_versions.specs.declared.write.Write.{Write}
 use Rattle.row_versions.specs.declared.write.Fate.{Fate}
 use Rattle.row_versions.specs.declared.write.Fate.TheVariants.{RolledBack, Committed, Open as OpenFate}
 use Rattle.row_locks.specs.declared.held.Held.{Held}
-use Rattle.row_locks.specs.declared.held.Strength.TheVariants.{Exclusive}
 use Rattle.session_machine.specs.declared.session.Transaction.{Transaction}
 use Rattle.session_machine.specs.declared.session.Transaction.TheVariants.{Closed, Open}
 use Rattle.session_machine.specs.declared.session.Session.{Session}
@@ -41,7 +41,7 @@ state events log fates tables a b c = holding events [] log fates tables a b c
 
 -- the row that session 2's open transaction made
 abbrev kept : List Held
-kept = record { row = record { 0 = 2 }; tx = record { 0 = 5 }; strength = Exclusive } ∷ []
+kept = record { row = record { 0 = 2 }; tx = record { 0 = 5 }; strength = Update } ∷ []
 
 abbrev at : ℕ → ℕ → Transaction → Session
 at block next t = record { place = Some (record { block = block; next = next }); transaction = t; statement = None }

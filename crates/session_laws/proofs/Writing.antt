@@ -4,6 +4,8 @@ use Rattle.std.specs.Prelude.{Option, Some, None, unwrap_or, slice_get, filter_m
 use Rattle.std.proofs.lemmas.Option.{slice_get_within, same_Some, get_or_from_slice_get}
 use Rattle.std.specs.List.{cons_option}
 use Rattle.sql_trees.specs.declared.stmt.Lock.{Lock}
+use Rattle.sql_trees.specs.declared.stmt.Strength.TheVariants.{Update}
+use Rattle.sql_trees.specs.declared.stmt.Policy.TheVariants.{Wait}
 use Rattle.sql_trees.specs.Trees.{Tree}
 use Rattle.sql_trees.specs.Statements.{CreateTree, UpdateTree, DeleteTree, SelectTree}
 use Rattle.sql_values.specs.declared.value.Value.{Value}
@@ -22,15 +24,14 @@ use Rattle.row_versions.proofs.Gets.{get-append_last}
 use Rattle.row_versions.proofs.Seeing.{same_table}
 use Rattle.row_versions.proofs.Shown.{shown_from_rows}
 use Rattle.row_locks.specs.declared.held.Held.{Held}
-use Rattle.row_locks.specs.declared.held.Strength.TheVariants.{Exclusive}
 use Rattle.update_recheck.specs.Asked.{Asked}
 use Rattle.update_recheck.specs.Outcome.{Outcome, target_outcome}
-use Rattle.update_recheck.specs.Outcome.Outcome.{Takes, Skips, Waits, Deadlocks, Serializes, Faults}
+use Rattle.update_recheck.specs.Outcome.Outcome.{Takes, Skips, Waits, Deadlocks, NotFree, Serializes, Faults}
 use Rattle.session_machine.specs.declared.session.OpenTransaction.{OpenTransaction}
 use Rattle.session_machine.specs.Tables.{Database, Table}
 use Rattle.session_machine.specs.Waits.{waits_in}
 use Rattle.session_machine.specs.Walks.{Stop}
-use Rattle.session_machine.specs.Rows.{Work, columns_in, cols_in, written, inserted, values_of, strength_of}
+use Rattle.session_machine.specs.Rows.{Work, columns_in, cols_in, written, inserted, values_of, update_strength}
 use Rattle.session_machine.specs.Inner.Statements.{walked_from, keys_in, stop_at_keys, insert_one, ask, settled, at_outcome, at_target, update_with, update_one, delete_with, delete_one, lock_with, lock_one, Visit, walked}
 use Rattle.session_machine.specs.Targets.{seen_by, at_places, passing_targets, taken_targets}
 use Rattle.session_machine.specs.Inner.Pieces.{unless_stopped, unless_stopped_by, unless_null, insert_made, update_made, lock_made, with_table, with_drop}
@@ -163,8 +164,8 @@ module _ (start : Content) (w : Work) (table : Table) (P : Database → Type 0) 
   abbrev Acts : (Database → Seen → Visit) → Type 0
   Acts act = (db : Database) (s : Seen) → W db → IsRowOf db.content w.table s.row.0 → length (values_of db s) ≡ length table.made.columns → W (act db s).db
 
-  works_target : (act : Database → Seen → Visit) → Acts act → (db : Database) (a : Asked) → SeenOf start w.table a.seen → W db → W (at_target act db w a).db
-  works_target act acts db a of h = at_case (target_outcome db.content db.held (waits_in db w.around.sessions) a) refl where
+  works_target : (name : List ℕ) (act : Database → Seen → Visit) → Acts act → (db : Database) (a : Asked) → SeenOf start w.table a.seen → W db → W (at_target name act db w a).db
+  works_target name act acts db a of h = at_case (target_outcome db.content db.held (waits_in db w.around.sessions) a) refl where
     is_settled : W (settled db w a)
     is_settled = works_lock db _ h
 
@@ -181,11 +182,12 @@ module _ (start : Content) (w : Work) (table : Table) (P : Database → Type 0) 
         (subst (λ (r : RowId). IsRowOf db.content w.table r.0) (sym v.row_is) its_row)
         (ap (λ (o : Option (List Value)). length (unwrap_or o [])) (its_values db.content s.place v.write v.there ∙ v.gave) ∙ long)
 
-    at_case : (o : Outcome) → target_outcome db.content db.held (waits_in db w.around.sessions) a ≡ o → W (at_outcome act (settled db w a) a o).db
+    at_case : (o : Outcome) → target_outcome db.content db.held (waits_in db w.around.sessions) a ≡ o → W (at_outcome name act (settled db w a) a o).db
     at_case (Takes s) e = at_version s (takes_version db.content db.held (waits_in db w.around.sessions) a s e)
     at_case Skips e = is_settled
     at_case Waits e = is_settled
     at_case Deadlocks e = is_settled
+    at_case NotFree e = is_settled
     at_case Serializes e = is_settled
     at_case (Faults fault) e = is_settled
 
@@ -227,14 +229,14 @@ module _ (start : Content) (w : Work) (table : Table) (P : Database → Type 0) 
   pub works_updates : (u : UpdateTree) (targets : List AssignedColumn) (r : Result (List Seen) ValueFault) → EachOk (SeenOf start w.table) r → (db : Database) (place : ℕ) (rows : List (List Value)) → W db
       → W (walked_from (update_one w u targets) db place rows r).db
   works_updates u targets r of db place rows h =
-      walked_from_keeps W (SeenOf start w.table) (update_one w u targets) (λ d s its k. works_target (update_with w u targets) (acts_update u targets) d (ask d w Exclusive u.filter s) its k) r of db place rows h
+      walked_from_keeps W (SeenOf start w.table) (update_one w u targets) (λ d s its k. works_target u.table (update_with w u targets) (acts_update u targets) d (ask d w (update_strength d w targets u s.row) Wait u.filter s) its k) r of db place rows h
 
   pub works_deletes : (q : DeleteTree) (r : Result (List Seen) ValueFault) → EachOk (SeenOf start w.table) r → (db : Database) (place : ℕ) (rows : List (List Value)) → W db
       → W (walked_from (delete_one w q) db place rows r).db
   works_deletes q r of db place rows h =
-      walked_from_keeps W (SeenOf start w.table) (delete_one w q) (λ d s its k. works_target (delete_with w) acts_delete d (ask d w Exclusive q.filter s) its k) r of db place rows h
+      walked_from_keeps W (SeenOf start w.table) (delete_one w q) (λ d s its k. works_target q.table (delete_with w) acts_delete d (ask d w Update Wait q.filter s) its k) r of db place rows h
 
   pub works_locks : (q : SelectTree) (l : Lock) (r : Result (List Seen) ValueFault) → EachOk (SeenOf start w.table) r → (db : Database) (place : ℕ) (rows : List (List Value)) → W db
       → W (walked_from (lock_one w q l) db place rows r).db
   works_locks q l r of db place rows h =
-      walked_from_keeps W (SeenOf start w.table) (lock_one w q l) (λ d s its k. works_target (lock_with w q) (acts_lock q) d (ask d w (strength_of l) q.filter s) its k) r of db place rows h
+      walked_from_keeps W (SeenOf start w.table) (lock_one w q l) (λ d s its k. works_target (unwrap_or q.table []) (lock_with w q) (acts_lock q) d (ask d w l.strength l.policy q.filter s) its k) r of db place rows h

@@ -15,7 +15,6 @@ use Rattle.query_results.specs.Queries.{AssignedColumn, cols_of, titles_of, resu
 use Rattle.query_results.specs.Updates.{columns_set, update_exprs}
 use Rattle.row_versions.specs.declared.names.TxId.{TxId}
 use Rattle.row_versions.specs.Log.{after_begin}
-use Rattle.row_locks.specs.declared.held.Strength.TheVariants.{Exclusive}
 use Rattle.session_machine.specs.declared.session.OpenTransaction.{OpenTransaction}
 use Rattle.session_machine.specs.declared.session.Place.{Place}
 use Rattle.session_machine.specs.declared.session.Progress.{Progress}
@@ -36,13 +35,13 @@ use Rattle.session_machine.specs.Transactions.{committed, fresh, view_of}
 use Rattle.session_machine.specs.Views.{rows_shown}
 use Rattle.session_machine.specs.Statements.{Surroundings, Effect, fails, answers, turns, drop_tables, level_set}
 use Rattle.session_machine.specs.Walks.{Stop, Walk, Blocked, Fails}
-use Rattle.session_machine.specs.Rows.{Work, columns_in, over_targets, strength_of, walk_of}
+use Rattle.session_machine.specs.Rows.{Work, columns_in, over_targets, table_named, walk_of}
 use Rattle.session_machine.specs.Running.{undefined_in, fault_in, leads_to, at_once, begin_at, run_in, run_stmt}
-use Rattle.session_machine.specs.Targets.{going_on, taken_targets}
+use Rattle.session_machine.specs.Targets.{going_on}
 use Rattle.session_machine.specs.Machine.{Machine, Blocks, Next, next, stmts_of, after_stmt, closed_at_end, is_failed, leaves}
 use Rattle.session_machine.specs.Inner.Steps.{launch_of, step_of, leave_of}
-use Rattle.wait_laws.specs.Laws.{table_named, stmt_at, transaction_at}
-use Rattle.wait_laws.specs.Replies.{AskedIn, Asks, AsksFromStart, AsksOver, AsksOverTargets, asking, surroundings, walk_from}
+use Rattle.wait_laws.specs.Laws.{stmt_at, transaction_at}
+use Rattle.wait_laws.specs.Replies.{AskedIn, Asks, AsksFromStart, AsksOver, asking, surroundings, walk_from}
 use Rattle.wait_laws.proofs.Events.{ok_is, ok_else, session_there, stepped}
 use Rattle.wait_laws.proofs.Stops.{Tells, inserts, neither, none_some, over_all}
 
@@ -178,29 +177,24 @@ module _ (S : Option Stop → Type 0) (C : TxId → List Session → Database �
   works : (db : Database) (w : Work) (stmt : StmtTree) (start : Walk) → start.stop ≡ None → (due : Effect) → (walk_of w stmt start ≡ None → R due.outcome → ⊥)
       → R (option_map_or (leads_to db w stmt) (walk_of w stmt start) due).outcome ↔ For w.t.tx w.around (AsksOver w stmt start)
   works db w (Inserts i) start h due not_so = by_both (leads db w (Inserts i) _) (inserts S C tells w i start h)
-  works db w (Updates u) start h due not_so = by_both (leads db w (Updates u) _) (over_all S C tells w (Updates u) Exclusive u.filter start h _)
-  works db w (Deletes d) start h due not_so = by_both (leads db w (Deletes d) _) (over_all S C tells w (Deletes d) Exclusive d.filter start h _)
+  works db w (Updates u) start h due not_so = by_both (leads db w (Updates u) _) (over_all S C tells w (Updates u) start h _)
+  works db w (Deletes d) start h due not_so = by_both (leads db w (Deletes d) _) (over_all S C tells w (Deletes d) start h _)
   works db w (Selects s) start h due not_so = by s.lock refl not_so where
     places : Result (List ℕ) ValueFault
     places = taken s (columns_in start.db w) (rows_shown start.db.content w.view w.table)
 
-    walk : Lock → Walk
-    walk l = over_targets w (Selects s) (strength_of l) s.filter start places
+    walk : Walk
+    walk = over_targets w (Selects s) start places
 
     none_lock : (l : Lock) → None ≡ Some l → ⊥
     none_lock l k = cc
 
-    same_lock : (a b : Lock) → Some a ≡ Some b → a ≡ b
-    same_lock a b k = cc
-
-    by : (o : Option Lock) → s.lock ≡ o → (option_map walk o ≡ None → R due.outcome → ⊥)
-        → R (option_map_or (leads_to db w (Selects s)) (option_map walk o) due).outcome ↔ For w.t.tx w.around (AsksOver w (Selects s) start)
+    by : (o : Option Lock) → s.lock ≡ o → (option_map (λ l. walk) o ≡ None → R due.outcome → ⊥)
+        → R (option_map_or (leads_to db w (Selects s)) (option_map (λ l. walk) o) due).outcome ↔ For w.t.tx w.around (AsksOver w (Selects s) start)
     by None e f = neither (f refl) (λ c. none_lock c.2.0 (sym e ∙ c.2.1))
     by (Some l) e f =
-        let on = by_both (leads db w (Selects s) (walk l)) (over_all S C tells w (Selects s) (strength_of l) s.filter start h places) in (
-          λ r. let c = on.0 r in (c.0, c.1, (l, e, c.2), c.3),
-          λ c. on.1 (c.0, c.1, subst (λ (y : Lock). AsksOverTargets w (Selects s) (strength_of y) s.filter start (taken_targets start.db w s) c.0 c.1) (same_lock c.2.0 l (sym c.2.1 ∙ e)) c.2.2, c.3),
-        )
+        let on = by_both (leads db w (Selects s) walk) (over_all S C tells w (Selects s) start h places) in
+        (λ r. let c = on.0 r in (c.0, c.1, (l, e, c.2), c.3), λ c. on.1 (c.0, c.1, c.2.2, c.3))
   works db w (Begin level) start h due not_so = neither (not_so refl) (λ c. c.2)
   works db w Commit start h due not_so = neither (not_so refl) (λ c. c.2)
   works db w Rollback start h due not_so = neither (not_so refl) (λ c. c.2)
@@ -327,7 +321,7 @@ module _ (S : Option Stop → Type 0) (C : TxId → List Session → Database �
     places : Result (List ℕ) ValueFault
     places = taken s (columns_in start.db w) (rows_shown start.db.content w.view w.table)
 
-    by : (o : Option Lock) → o ≡ Some c.0 → option_map (λ l. over_targets w (Selects s) (strength_of l) s.filter start places) o ≡ None → ⊥
+    by : (o : Option Lock) → o ≡ Some c.0 → option_map (λ l. over_targets w (Selects s) start places) o ≡ None → ⊥
     by None e k = let f : None ≡ Some c.0 = e in cc
     by (Some l) e k = none_some _ (sym k)
   idle w v (Begin level) start from h d r c = c

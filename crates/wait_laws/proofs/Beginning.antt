@@ -22,10 +22,10 @@ use Rattle.session_machine.specs.Transactions.{fresh, view_of}
 use Rattle.session_machine.specs.Views.{rows_shown}
 use Rattle.session_machine.specs.Statements.{Surroundings, Effect, fails, answers, drop_tables, level_set}
 use Rattle.session_machine.specs.Walks.{Stop, Walk, Blocked, Fails}
-use Rattle.session_machine.specs.Rows.{Work, columns_in, walk_of}
+use Rattle.session_machine.specs.Rows.{Work, columns_in, table_named, walk_of}
 use Rattle.session_machine.specs.Running.{fault_in, leads_to, at_once, begin_at, run_in, run_stmt}
 use Rattle.session_laws.proofs.Fitting.{find_table_within}
-use Rattle.wait_laws.specs.Laws.{table_at, table_named}
+use Rattle.wait_laws.specs.Laws.{table_at}
 
 none_not : (p : Progress) → None ≡ Some p → ⊥
 none_not p h = cc

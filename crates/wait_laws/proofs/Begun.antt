@@ -5,13 +5,14 @@ use Rattle.std.proofs.lemmas.Bool.{cases_eq}
 use Rattle.std.proofs.lemmas.Option.{slice_get_within}
 use Rattle.sql_trees.specs.declared.stmt.Level.{Level}
 use Rattle.sql_trees.specs.declared.stmt.Level.TheVariants.{ReadCommitted, RepeatableRead}
+use Rattle.sql_trees.specs.declared.stmt.Strength.TheVariants.{Update}
 use Rattle.query_results.specs.Queries.{cols_of, passing, taken}
 use Rattle.row_versions.specs.declared.names.TxId.{TxId}
 use Rattle.row_versions.specs.declared.write.View.{View}
 use Rattle.row_versions.specs.declared.write.Write.{Write}
 use Rattle.row_versions.specs.declared.write.Fate.{Fate}
 use Rattle.row_locks.specs.declared.held.Held.{Held}
-use Rattle.row_locks.specs.Held.{lock_of_write, with_lock}
+use Rattle.row_locks.specs.Held.{with_lock}
 use Rattle.row_versions.specs.declared.write.Fate.TheVariants.{RolledBack, Committed, Open as OpenFate}
 use Rattle.row_versions.specs.Log.{IsOpen, commit_count, after_write, after_commit, after_roll_back}
 use Rattle.row_versions.proofs.Gets.{get-append_left, get-append_last}
@@ -33,7 +34,7 @@ use Rattle.session_machine.specs.Running.{run_stmt}
 use Rattle.session_machine.specs.Machine.{Machine, Blocks, Next, next, opening, stmts_of, at_rest, with_session, session_of}
 use Rattle.session_machine.specs.Inner.Steps.{launch_of, step_of, leave_of, around, first_place}
 use Rattle.session_machine.specs.Sound.{command_in, tx_in, tx_of}
-use Rattle.wait_laws.specs.Laws.{Reaches, FindsTheSame, WaitsGoOnAsBegun}
+use Rattle.wait_laws.specs.Laws.{Reaches, FindsTheSame, WaitsGoOnAsBegun, lock_of_write}
 use Rattle.session_laws.proofs.Lists.{slice_get-set_same, slice_get-set_other}
 use Rattle.wait_laws.proofs.Doing.{Keeps, Ran, doer, start, Allows}
 use Rattle.wait_laws.proofs.Events.{session_there, ok_is, ok_else, stepped, after, left_as, Rests, Moved, moved, always}
@@ -80,8 +81,8 @@ stands_write x n view db blind d w own now p held = record {
 stands_keeps : (x : TxId) (n : ℕ) (view : View) (db : Database) → IsBlind x n view db → Keeps x n (Works x view db) (Stands x view db)
 stands_keeps x n view db blind = record {
   lock = λ d h own may p. record { all = record { stays = p.all.stays; others = p.all.others; tables = p.all.tables }; mine = p.mine };
-  insert = λ d w own now made p. stands_write x n view db blind d w own now p (with_lock d.held (lock_of_write w));
-  write = λ d w own now held p. stands_write x n view db blind d w own now p d.held;
+  insert = λ d w own now made p. stands_write x n view db blind d w own now p (with_lock d.held (lock_of_write Update w));
+  write = λ d w strength own now enough held p. stands_write x n view db blind d w own now p d.held;
   create = λ d made p. record {
     all = record { stays = p.all.stays; others = p.all.others; tables = λ k t h. left_some d.catalog.tables (record { made = made; by = x }) k t (p.all.tables k t h) };
     mine = p.mine;

@@ -3,6 +3,8 @@ use Rattle.std.proofs.Common.{◌≡◌, refl, sym, ◌∙◌, ap, subst, ◌⊎
 use Rattle.std.specs.Prelude.{Option, Some, None, slice_get, Ok}
 use Rattle.std.proofs.lemmas.Bool.{cases_eq}
 use Rattle.std.proofs.lemmas.Option.{slice_get_within}
+use Rattle.sql_trees.specs.declared.stmt.Strength.{Strength}
+use Rattle.sql_trees.specs.declared.stmt.Strength.TheVariants.{Update}
 use Rattle.row_versions.specs.declared.names.TxId.{TxId}
 use Rattle.row_versions.specs.declared.names.RowId.{RowId}
 use Rattle.row_versions.specs.declared.write.Write.{Write}
@@ -10,10 +12,9 @@ use Rattle.row_versions.specs.declared.write.Fate.{Fate}
 use Rattle.row_versions.specs.declared.write.Fate.TheVariants.{RolledBack, Committed, Open as OpenFate}
 use Rattle.row_versions.specs.Log.{IsOpen, commit_count, after_write}
 use Rattle.row_versions.proofs.Gets.{get-append_left}
-use Rattle.row_locks.specs.declared.held.Strength.{Strength}
 use Rattle.row_locks.specs.declared.held.Held.{Held}
 use Rattle.row_versions.specs.Members.{has, same_tx}
-use Rattle.row_locks.specs.Held.{holders_against, lock_of_write, released, with_lock}
+use Rattle.row_locks.specs.Held.{holders_against, released, with_lock}
 use Rattle.row_locks.specs.Inner.Searching.{is_against}
 use Rattle.row_locks.specs.Cycles.{blocks, NoCycle, closes}
 use Rattle.row_locks.proofs.Paths.{run_kept, wait_kept, no_cycle_less}
@@ -36,7 +37,7 @@ use Rattle.session_machine.specs.Waits.{blockers, waits_in}
 use Rattle.session_machine.specs.Machine.{Machine, Blocks, Next, next, opening, at_rest, empty_database, session_of}
 use Rattle.session_machine.specs.Inner.Steps.{around}
 use Rattle.session_machine.specs.Sound.{command_in, tx_in, tx_of}
-use Rattle.wait_laws.specs.Laws.{Reaches, NoCycleOfWaits}
+use Rattle.wait_laws.specs.Laws.{Reaches, NoCycleOfWaits, lock_of_write}
 use Rattle.session_laws.proofs.Lists.{slice_get-set_same, slice_get-set_other}
 use Rattle.wait_laws.proofs.Doing.{Keeps, Ran, doer, start, Allows}
 use Rattle.wait_laws.proofs.KeyBlockers.{less_written, less_begun, less_rolled_back, less_committed}
@@ -121,8 +122,8 @@ wrote x d w own mine (Row row strength) tx u ne e = e
 wrote x d w own mine (Key k) tx u ne e = less_written d.content w k tx u (subst (IsOpen d.content) (sym own) mine) (λ f. ne (f ∙ own)) e
 
 made : (x : TxId) (d : Database) (w : Write) → w.tx ≡ x → IsOpen d.content x → (r : Request) (tx u : TxId) → (u ≡ x → ⊥)
-    → has (blockers (record d { content = after_write d.content w; held = with_lock d.held (lock_of_write w) }) r tx) u ≡ true → has (blockers d r tx) u ≡ true
-made x d w own mine (Row row strength) tx u ne e = against_more d.held (lock_of_write w) row tx strength u (λ k. ne (k ∙ own)) e
+    → has (blockers (record d { content = after_write d.content w; held = with_lock d.held (lock_of_write Update w) }) r tx) u ≡ true → has (blockers d r tx) u ≡ true
+made x d w own mine (Row row strength) tx u ne e = against_more d.held (lock_of_write Update w) row tx strength u (λ k. ne (k ∙ own)) e
 made x d w own mine (Key k) tx u ne e = less_written d.content w k tx u (subst (IsOpen d.content) (sym own) mine) (λ f. ne (f ∙ own)) e
 
 same_rows : (d : Database) (catalog : Catalog) (r : Request) (tx u : TxId) → has (blockers (record d { catalog = catalog }) r tx) u ≡ true → has (blockers d r tx) u ≡ true
@@ -150,7 +151,7 @@ adds_keeps x n db = record {
     mine = p.mine;
     all = record { others = p.all.others; rows = k.all; against = λ r tx u ne e. p.all.against r tx u ne (made x d w own p.mine r tx u ne e) };
   };
-  write = λ d w own now held p. let k = (held_keeps x n).write d w own now held (by_rows p) in record {
+  write = λ d w strength own now enough held p. let k = (held_keeps x n).write d w strength own now enough held (by_rows p) in record {
     mine = p.mine;
     all = record { others = p.all.others; rows = k.all; against = λ r tx u ne e. p.all.against r tx u ne (wrote x d w own p.mine r tx u ne e) };
   };

@@ -4,6 +4,8 @@ use Rattle.std.specs.Prelude.{Result, Ok, Err}
 use Rattle.std.specs.List.{list_any}
 use Rattle.sql_trees.specs.declared.stmt.Level.{Level}
 use Rattle.sql_trees.specs.declared.stmt.Level.TheVariants.{ReadCommitted, RepeatableRead}
+use Rattle.sql_trees.specs.declared.stmt.Policy.{Policy}
+use Rattle.sql_trees.specs.declared.stmt.Policy.TheVariants.{Wait, NoWait, SkipLocked}
 use Rattle.sql_values.specs.declared.fault.ValueFault.{ValueFault}
 use Rattle.row_versions.specs.declared.names.TxId.{TxId}
 use Rattle.row_versions.specs.declared.write.Seen.{Seen}
@@ -11,22 +13,26 @@ use Rattle.row_versions.specs.Members.{is_none_of}
 use Rattle.row_locks.specs.Cycles.{leads, closes}
 use Rattle.row_locks.proofs.Waiting.{closes_says}
 use Rattle.update_recheck.specs.Outcome.{Version, Same, Gone, Newer, row_blockers, newest_version}
-use Rattle.update_recheck.specs.Inner.Cases.{Holders, Nobody, Others, OthersInACycle, outcome, rechecked}
+use Rattle.update_recheck.specs.Inner.Cases.{Holders, Nobody, Others, OthersInACycle, OthersAtNoWait, OthersSkipped, outcome, rechecked}
 use Rattle.update_recheck.proofs.Cases.{outcome_is}
 use Rattle.update_recheck.specs.Inner.Stopping.{holders_of}
 use Rattle.update_recheck.specs.Outcome.Outcome.{Waits, Deadlocks}
 use Rattle.wait_laws.specs.Laws.{is_worth_a_wait, DeadlockIsExact}
 
--- what a list of blockers and the test for a cycle come to
-in_a_cycle : (bs : List TxId) (b : Bool) → (holders_of bs b ≡ OthersInACycle) ↔ ((is_none_of bs ≡ false) × (b ≡ true))
-in_a_cycle [] b = (λ h. cc, λ h. let k = h.0 in cc)
-in_a_cycle (t ∷ bs) true = (λ h. (refl, refl), λ h. refl)
-in_a_cycle (t ∷ bs) false = (λ h. cc, λ h. let k = h.1 in cc)
+-- what the policy, a list of blockers and the test for a cycle come to
+in_a_cycle : (policy : Policy) (bs : List TxId) (b : Bool) → (holders_of policy bs b ≡ OthersInACycle) ↔ ((policy ≡ Wait) × (is_none_of bs ≡ false) × (b ≡ true))
+in_a_cycle policy [] b = (λ h. cc, λ h. let k = h.1 in cc)
+in_a_cycle Wait (t ∷ bs) true = (λ h. (refl, refl, refl), λ h. refl)
+in_a_cycle Wait (t ∷ bs) false = (λ h. cc, λ h. let k = h.2 in cc)
+in_a_cycle NoWait (t ∷ bs) b = (λ h. cc, λ h. let k = h.0 in cc)
+in_a_cycle SkipLocked (t ∷ bs) b = (λ h. cc, λ h. let k = h.0 in cc)
 
-others : (bs : List TxId) (b : Bool) → (holders_of bs b ≡ Others) ↔ ((is_none_of bs ≡ false) × (b ≡ false))
-others [] b = (λ h. cc, λ h. let k = h.0 in cc)
-others (t ∷ bs) true = (λ h. cc, λ h. let k = h.1 in cc)
-others (t ∷ bs) false = (λ h. (refl, refl), λ h. refl)
+others : (policy : Policy) (bs : List TxId) (b : Bool) → (holders_of policy bs b ≡ Others) ↔ ((policy ≡ Wait) × (is_none_of bs ≡ false) × (b ≡ false))
+others policy [] b = (λ h. cc, λ h. let k = h.1 in cc)
+others Wait (t ∷ bs) true = (λ h. cc, λ h. let k = h.2 in cc)
+others Wait (t ∷ bs) false = (λ h. (refl, refl, refl), λ h. refl)
+others NoWait (t ∷ bs) b = (λ h. cc, λ h. let k = h.0 in cc)
+others SkipLocked (t ∷ bs) b = (λ h. cc, λ h. let k = h.0 in cc)
 
 rechecked_deadlock : (m : Seen) (r : Result Bool ValueFault) → rechecked m r ≡ Deadlocks → ⊥
 rechecked_deadlock m (Ok true) h = cc
@@ -41,6 +47,8 @@ rechecked_wait m (Err fault) h = cc
 deadlocks : (l : Level) (found : Seen) (hs : Holders) (v : Version) → (outcome l found hs v ≡ Deadlocks) ↔ ((is_worth_a_wait l v ≡ true) × (hs ≡ OthersInACycle))
 deadlocks ReadCommitted found OthersInACycle v = (λ h. (refl, refl), λ h. refl)
 deadlocks ReadCommitted found Others v = (λ h. cc, λ h. let k = h.1 in cc)
+deadlocks ReadCommitted found OthersAtNoWait v = (λ h. cc, λ h. let k = h.1 in cc)
+deadlocks ReadCommitted found OthersSkipped v = (λ h. cc, λ h. let k = h.1 in cc)
 deadlocks ReadCommitted found Nobody Gone = (λ h. cc, λ h. let k = h.1 in cc)
 deadlocks ReadCommitted found Nobody Same = (λ h. cc, λ h. let k = h.1 in cc)
 deadlocks ReadCommitted found Nobody (Newer m r) = (λ h. absurd (rechecked_deadlock m r h), λ h. let k = h.1 in cc)
@@ -48,10 +56,14 @@ deadlocks RepeatableRead found hs Gone = (λ h. cc, λ h. let k = h.0 in cc)
 deadlocks RepeatableRead found hs (Newer m r) = (λ h. cc, λ h. let k = h.0 in cc)
 deadlocks RepeatableRead found OthersInACycle Same = (λ h. (refl, refl), λ h. refl)
 deadlocks RepeatableRead found Others Same = (λ h. cc, λ h. let k = h.1 in cc)
+deadlocks RepeatableRead found OthersAtNoWait Same = (λ h. cc, λ h. let k = h.1 in cc)
+deadlocks RepeatableRead found OthersSkipped Same = (λ h. cc, λ h. let k = h.1 in cc)
 deadlocks RepeatableRead found Nobody Same = (λ h. cc, λ h. let k = h.1 in cc)
 
 waits : (l : Level) (found : Seen) (hs : Holders) (v : Version) → (outcome l found hs v ≡ Waits) ↔ ((is_worth_a_wait l v ≡ true) × (hs ≡ Others))
 waits ReadCommitted found OthersInACycle v = (λ h. cc, λ h. let k = h.1 in cc)
+waits ReadCommitted found OthersAtNoWait v = (λ h. cc, λ h. let k = h.1 in cc)
+waits ReadCommitted found OthersSkipped v = (λ h. cc, λ h. let k = h.1 in cc)
 waits ReadCommitted found Others v = (λ h. (refl, refl), λ h. refl)
 waits ReadCommitted found Nobody Gone = (λ h. cc, λ h. let k = h.1 in cc)
 waits ReadCommitted found Nobody Same = (λ h. cc, λ h. let k = h.1 in cc)
@@ -59,6 +71,8 @@ waits ReadCommitted found Nobody (Newer m r) = (λ h. absurd (rechecked_wait m r
 waits RepeatableRead found hs Gone = (λ h. cc, λ h. let k = h.0 in cc)
 waits RepeatableRead found hs (Newer m r) = (λ h. cc, λ h. let k = h.0 in cc)
 waits RepeatableRead found OthersInACycle Same = (λ h. cc, λ h. let k = h.1 in cc)
+waits RepeatableRead found OthersAtNoWait Same = (λ h. cc, λ h. let k = h.1 in cc)
+waits RepeatableRead found OthersSkipped Same = (λ h. cc, λ h. let k = h.1 in cc)
 waits RepeatableRead found Others Same = (λ h. (refl, refl), λ h. refl)
 waits RepeatableRead found Nobody Same = (λ h. cc, λ h. let k = h.1 in cc)
 
@@ -82,15 +96,15 @@ deadlock_is_exact c held list ask =
     let says = closes_says list ask.tx bs in
     let v = newest_version c ask in
     let is = outcome_is c held list ask in
-    let d = deadlocks ask.level ask.seen (holders_of bs closing) v in
-    let w = waits ask.level ask.seen (holders_of bs closing) v in
+    let d = deadlocks ask.level ask.seen (holders_of ask.policy bs closing) v in
+    let w = waits ask.level ask.seen (holders_of ask.policy bs closing) v in
     record {
       deadlocks = (
-        λ h. let k = d.0 (sym is ∙ h) in (k.0, says.0 ((in_a_cycle bs closing).0 k.1).1),
-        λ h. is ∙ d.1 (h.0, (in_a_cycle bs closing).1 (some_of (λ b. leads list b ask.tx) bs (says.1 h.1), says.1 h.1)),
+        λ h. let k = d.0 (sym is ∙ h) in let o = (in_a_cycle ask.policy bs closing).0 k.1 in (k.0, o.0, says.0 o.2),
+        λ h. is ∙ d.1 (h.0, (in_a_cycle ask.policy bs closing).1 (h.1, some_of (λ b. leads list b ask.tx) bs (says.1 h.2), says.1 h.2)),
       );
       waits_else = (
-        λ h. let k = w.0 (sym is ∙ h) in let o = (others bs closing).0 k.1 in (k.0, o.0, λ e. false_not closing o.1 (says.1 e)),
-        λ h. is ∙ w.1 (h.0, (others bs closing).1 (h.1, false_is closing (λ e. h.2 (says.0 e)))),
+        λ h. let k = w.0 (sym is ∙ h) in let o = (others ask.policy bs closing).0 k.1 in (k.0, o.0, o.1, λ e. false_not closing o.2 (says.1 e)),
+        λ h. is ∙ w.1 (h.0, (others ask.policy bs closing).1 (h.1, h.2, false_is closing (λ e. h.3 (says.0 e)))),
       );
     }

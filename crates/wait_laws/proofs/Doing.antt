@@ -6,6 +6,10 @@ use Rattle.std.proofs.lemmas.Bool.{eqb-true}
 use Rattle.sql_trees.specs.declared.stmt.Level.{Level}
 use Rattle.sql_trees.specs.declared.stmt.Level.TheVariants.{ReadCommitted, RepeatableRead}
 use Rattle.sql_trees.specs.declared.stmt.Lock.{Lock}
+use Rattle.sql_trees.specs.declared.stmt.Policy.{Policy}
+use Rattle.sql_trees.specs.declared.stmt.Policy.TheVariants.{Wait, NoWait, SkipLocked}
+use Rattle.sql_trees.specs.declared.stmt.Strength.{Strength}
+use Rattle.sql_trees.specs.declared.stmt.Strength.TheVariants.{NoKeyUpdate, Update}
 use Rattle.sql_trees.specs.Trees.{Tree}
 use Rattle.sql_trees.specs.Statements.{StmtTree, KeyTree, CreateTree, InsertTree, UpdateTree, DeleteTree, SelectTree, Begin, Commit, Rollback, SetTransaction, SetDeadlockTimeout}
 use Rattle.sql_values.specs.declared.value.Value.{Value}
@@ -22,17 +26,15 @@ use Rattle.row_versions.specs.Log.{Content, next_tx, new_row, values_at, after_w
 use Rattle.row_versions.specs.Newest.{newest_of}
 use Rattle.row_versions.specs.Inner.Searching.{is_committed, is_version, newest_from}
 use Rattle.row_versions.proofs.Last.{newest_is}
-use Rattle.row_locks.specs.declared.held.Strength.{Strength}
-use Rattle.row_locks.specs.declared.held.Strength.TheVariants.{Exclusive}
 use Rattle.row_locks.specs.declared.held.Held.{Held}
-use Rattle.row_locks.specs.Held.{holders_against, holds, lock_of_write, with_lock}
+use Rattle.row_locks.specs.Held.{holders_against, holds, with_lock}
 use Rattle.row_versions.specs.Members.{is_none_of}
 use Rattle.row_locks.specs.Cycles.{closes}
 use Rattle.row_locks.proofs.Reaching.{and_both}
 use Rattle.unique_keys.specs.Checks.{KeyFound, KeyIsFree, KeyIsTaken, KeyIsHeld, found_by, key_found}
 use Rattle.update_recheck.specs.Asked.{Asked}
 use Rattle.update_recheck.specs.Outcome.{Version, Same, Gone, Newer, newest_version, version_at}
-use Rattle.update_recheck.specs.Inner.Cases.{Holders, Nobody, Others, OthersInACycle, holders, is_locked, outcome}
+use Rattle.update_recheck.specs.Inner.Cases.{Holders, Nobody, Others, OthersInACycle, OthersAtNoWait, OthersSkipped, holders, is_locked, outcome}
 use Rattle.update_recheck.proofs.Cases.{outcome_is, locked_is}
 use Rattle.update_recheck.specs.Inner.Stopping.{holders_of, version_of}
 use Rattle.update_recheck.specs.Settling.{lock_of, locks_after}
@@ -54,13 +56,14 @@ use Rattle.session_machine.specs.Sound.{command_in}
 use Rattle.session_machine.specs.Statements.{Surroundings, Effect, fails, turns, level_set}
 use Rattle.session_machine.specs.Walks.{Stop, Walk, Blocked, Fails}
 use Rattle.session_machine.specs.AskedKeys.{AskedKey}
-use Rattle.session_machine.specs.Rows.{Work, columns_in, cols_in, stop_at_key, inserted, written, values_of, strength_of}
+use Rattle.session_machine.specs.Rows.{Work, columns_in, cols_in, stop_at_key, inserted, update_strength, written, values_of}
 use Rattle.session_machine.specs.Running.{run_stmt}
 use Rattle.session_machine.specs.Inner.Statements.{run_piecewise, is_end, walked_from, keys_in, stop_at_keys, insert_one, ask, at_outcome, at_target, update_with, update_one, delete_with, delete_one, lock_with, lock_one, beginning, comes_to, after_walk, done, insert_from, insert, assigned_to, update_from, update, delete_from, delete, lock_from, answered, select_rows, unless_wrong, select, run_open, run_closed, run_on, begun, Visit, goes_on, walked, create}
 use Rattle.session_machine.specs.Targets.{asked_key, passing_targets, taken_targets, going_on}
 use Rattle.session_machine.specs.Inner.Pieces.{drop_ended, unless_stopped, unless_stopped_by, unless_null, insert_made, update_made, lock_made, insert_fitting, insert_to, update_fitting, update_to, delete_fitting, select_in, select_found, run_first, with_table, with_drop, DroppedUpTo, dropped, dropped_at, stop_by}
 use Rattle.session_machine.proofs.Piecewise.{stops_by, drops_by}
 use Rattle.session_machine.proofs.ByKind.{runs_by_kind}
+use Rattle.wait_laws.specs.Laws.{lets_write, lock_of_write}
 use Rattle.wait_laws.proofs.ByKind.{AtOnce, FromStart, FromPlace, by_kind, on_kind}
 use Rattle.wait_laws.proofs.Lists.{holds_last}
 
@@ -75,8 +78,9 @@ pub record MayTake (d : Database) (h : Held) : Type 0 where
 -- what a transaction may do, at this command of its, keeps the one while it runs, and leads to the other where it ends
 pub record Keeps (x : TxId) (n : ℕ) (P Q : Database → Type 0) : Type 0 where
   pub lock : (d : Database) (h : Held) → h.tx ≡ x → MayTake d h → P d → P (record d { held = with_lock d.held h })
-  pub insert : (d : Database) (w : Write) → w.tx ≡ x → w.command ≡ n → w.row ≡ new_row d.content → P d → P (record d { content = after_write d.content w; held = with_lock d.held (lock_of_write w) })
-  pub write : (d : Database) (w : Write) → w.tx ≡ x → w.command ≡ n → holds d.held (lock_of_write w) ≡ true → P d → P (record d { content = after_write d.content w })
+  pub insert : (d : Database) (w : Write) → w.tx ≡ x → w.command ≡ n → w.row ≡ new_row d.content → P d → P (record d { content = after_write d.content w; held = with_lock d.held (lock_of_write Update w) })
+  pub write : (d : Database) (w : Write) (strength : Strength) → w.tx ≡ x → w.command ≡ n → lets_write strength w.values ≡ true → holds d.held (lock_of_write strength w) ≡ true → P d
+      → P (record d { content = after_write d.content w })
   pub create : (d : Database) (made : CreateTree) → P d → P (record d { catalog = with_table d.catalog made x })
   pub drop : (d : Database) (k : ℕ) → P d → P (record d { catalog = with_drop d.catalog k x })
   pub commit : (d : Database) → P d → Q (committed d x)
@@ -141,16 +145,20 @@ comes_from x P ss visit each db place rows (Err fault) p = comes_fails x P ss db
 comes_from x P ss visit each db place rows (Ok targets) p = comes_walked x P ss visit each db place rows (drop place targets) p
 
 -- who waits has blockers, and closes no cycle
-others_say : (bs : List TxId) (closing : Bool) → holders_of bs closing ≡ Others → (closing ≡ false) × (not (is_none_of bs) ≡ true)
-others_say [] closing h = cc
-others_say (b ∷ bs) true h = cc
-others_say (b ∷ bs) false h = (refl, refl)
+others_say : (policy : Policy) (bs : List TxId) (closing : Bool) → holders_of policy bs closing ≡ Others → (closing ≡ false) × (not (is_none_of bs) ≡ true)
+others_say policy [] closing h = cc
+others_say Wait (b ∷ bs) true h = cc
+others_say Wait (b ∷ bs) false h = (refl, refl)
+others_say NoWait (b ∷ bs) closing h = cc
+others_say SkipLocked (b ∷ bs) closing h = cc
 
 -- where nobody holds a target none stands against it
-nobody_says : (bs : List TxId) (closing : Bool) → holders_of bs closing ≡ Nobody → is_none_of bs ≡ true
-nobody_says [] closing h = refl
-nobody_says (b ∷ bs) true h = cc
-nobody_says (b ∷ bs) false h = cc
+nobody_says : (policy : Policy) (bs : List TxId) (closing : Bool) → holders_of policy bs closing ≡ Nobody → is_none_of bs ≡ true
+nobody_says policy [] closing h = refl
+nobody_says Wait (b ∷ bs) true h = cc
+nobody_says Wait (b ∷ bs) false h = cc
+nobody_says NoWait (b ∷ bs) closing h = cc
+nobody_says SkipLocked (b ∷ bs) closing h = cc
 
 -- where a row has a version it was written
 record IsWritten (log : List Write) (row : RowId) : Type 0 where
@@ -215,63 +223,75 @@ newer_row c a m r h = by (newest_of c a.seen.row a.tx) refl h where
   by (Some n) e k = newest_row c a.seen.row a.tx m (sym e ∙ ap Some (by_values n (values_at c n.place) k))
 
 -- a target: what is done with a version of the row once its lock is held
-at_case : (x : TxId) (P : Database → Type 0) (ss : List Session) (act : Database → Seen → Visit) (db : Database) (a : Asked) (l : Level) (hs : Holders) (v : Version)
+at_case : (x : TxId) (P : Database → Type 0) (ss : List Session) (name : List ℕ) (act : Database → Seen → Visit) (db : Database) (a : Asked) (l : Level) (hs : Holders) (v : Version)
     → P db → (hs ≡ Nobody → (v ≡ Gone → ⊥) → P (record db { held = with_lock db.held (lock_of a) }))
     → ((d : Database) (seen : Seen) → P d → holds d.held (lock_of a) ≡ true → seen.row ≡ a.seen.row → Comes x P ss (act d seen).db (act d seen).stop)
     → (hs ≡ Others → Refused x ss db (Row a.seen.row a.strength))
     → ((m : Seen) (r : Result Bool ValueFault) → v ≡ Newer m r → m.row ≡ a.seen.row)
-    → (let y = at_outcome act (record db { held = locks_after (is_locked l hs v) db.held (lock_of a) }) a (outcome l a.seen hs v) in Comes x P ss y.db y.stop)
-at_case x P ss act db a ReadCommitted OthersInACycle v p q does refused named = comes_fails x P ss db _ p
-at_case x P ss act db a ReadCommitted Others v p q does refused named = comes_blocked x P ss db _ p (refused refl)
-at_case x P ss act db a ReadCommitted Nobody Gone p q does refused named = comes_on x P ss db [] p
-at_case x P ss act db a ReadCommitted Nobody Same p q does refused named =
+    → (let y = at_outcome name act (record db { held = locks_after (is_locked l hs v) db.held (lock_of a) }) a (outcome l a.seen hs v) in Comes x P ss y.db y.stop)
+at_case x P ss name act db a ReadCommitted OthersInACycle v p q does refused named = comes_fails x P ss db _ p
+at_case x P ss name act db a ReadCommitted Others v p q does refused named = comes_blocked x P ss db _ p (refused refl)
+at_case x P ss name act db a ReadCommitted OthersAtNoWait v p q does refused named = comes_fails x P ss db _ p
+at_case x P ss name act db a ReadCommitted OthersSkipped v p q does refused named = comes_on x P ss db [] p
+at_case x P ss name act db a ReadCommitted Nobody Gone p q does refused named = comes_on x P ss db [] p
+at_case x P ss name act db a ReadCommitted Nobody Same p q does refused named =
     does (record db { held = with_lock db.held (lock_of a) }) a.seen (q refl (λ e. cc)) (holds_last db.held (lock_of a)) refl
-at_case x P ss act db a ReadCommitted Nobody (Newer m (Ok true)) p q does refused named =
+at_case x P ss name act db a ReadCommitted Nobody (Newer m (Ok true)) p q does refused named =
     does (record db { held = with_lock db.held (lock_of a) }) m (q refl (λ e. cc)) (holds_last db.held (lock_of a)) (named m (Ok true) refl)
-at_case x P ss act db a ReadCommitted Nobody (Newer m (Ok false)) p q does refused named = comes_on x P ss _ [] (q refl (λ e. cc))
-at_case x P ss act db a ReadCommitted Nobody (Newer m (Err fault)) p q does refused named = comes_fails x P ss _ _ (q refl (λ e. cc))
-at_case x P ss act db a RepeatableRead hs Gone p q does refused named = at_gone hs where
-  at_gone : (h : Holders) → (let y = at_outcome act (record db { held = locks_after (is_locked RepeatableRead h Gone) db.held (lock_of a) }) a (outcome RepeatableRead a.seen h Gone) in Comes x P ss y.db y.stop)
+at_case x P ss name act db a ReadCommitted Nobody (Newer m (Ok false)) p q does refused named = comes_on x P ss _ [] (q refl (λ e. cc))
+at_case x P ss name act db a ReadCommitted Nobody (Newer m (Err fault)) p q does refused named = comes_fails x P ss _ _ (q refl (λ e. cc))
+at_case x P ss name act db a RepeatableRead hs Gone p q does refused named = at_gone hs where
+  at_gone : (h : Holders) → (let y = at_outcome name act (record db { held = locks_after (is_locked RepeatableRead h Gone) db.held (lock_of a) }) a (outcome RepeatableRead a.seen h Gone) in Comes x P ss y.db y.stop)
   at_gone Nobody = comes_fails x P ss db _ p
   at_gone Others = comes_fails x P ss db _ p
   at_gone OthersInACycle = comes_fails x P ss db _ p
-at_case x P ss act db a RepeatableRead hs (Newer m r) p q does refused named = at_newer hs where
-  at_newer : (h : Holders) → (let y = at_outcome act (record db { held = locks_after (is_locked RepeatableRead h (Newer m r)) db.held (lock_of a) }) a (outcome RepeatableRead a.seen h (Newer m r)) in Comes x P ss y.db y.stop)
+  at_gone OthersAtNoWait = comes_fails x P ss db _ p
+  at_gone OthersSkipped = comes_fails x P ss db _ p
+at_case x P ss name act db a RepeatableRead hs (Newer m r) p q does refused named = at_newer hs where
+  at_newer : (h : Holders) → (let y = at_outcome name act (record db { held = locks_after (is_locked RepeatableRead h (Newer m r)) db.held (lock_of a) }) a (outcome RepeatableRead a.seen h (Newer m r)) in Comes x P ss y.db y.stop)
   at_newer Nobody = comes_fails x P ss db _ p
   at_newer Others = comes_fails x P ss db _ p
   at_newer OthersInACycle = comes_fails x P ss db _ p
-at_case x P ss act db a RepeatableRead OthersInACycle Same p q does refused named = comes_fails x P ss db _ p
-at_case x P ss act db a RepeatableRead Others Same p q does refused named = comes_blocked x P ss db _ p (refused refl)
-at_case x P ss act db a RepeatableRead Nobody Same p q does refused named =
+  at_newer OthersAtNoWait = comes_fails x P ss db _ p
+  at_newer OthersSkipped = comes_fails x P ss db _ p
+at_case x P ss name act db a RepeatableRead OthersInACycle Same p q does refused named = comes_fails x P ss db _ p
+at_case x P ss name act db a RepeatableRead Others Same p q does refused named = comes_blocked x P ss db _ p (refused refl)
+at_case x P ss name act db a RepeatableRead OthersAtNoWait Same p q does refused named = comes_fails x P ss db _ p
+at_case x P ss name act db a RepeatableRead OthersSkipped Same p q does refused named = comes_on x P ss db [] p
+at_case x P ss name act db a RepeatableRead Nobody Same p q does refused named =
     does (record db { held = with_lock db.held (lock_of a) }) a.seen (q refl (λ e. cc)) (holds_last db.held (lock_of a)) refl
 
-comes_target : (P Q : Database → Type 0) (act : Database → Seen → Visit) (db : Database) (w : Work) (a : Asked) → a.tx ≡ w.t.tx → Keeps w.t.tx w.t.command P Q → P db
+comes_target : (P Q : Database → Type 0) (name : List ℕ) (act : Database → Seen → Visit) (db : Database) (w : Work) (a : Asked) → a.tx ≡ w.t.tx → Keeps w.t.tx w.t.command P Q → P db
     → ((d : Database) (seen : Seen) → P d → holds d.held (lock_of a) ≡ true → seen.row ≡ a.seen.row → Comes w.t.tx P w.around.sessions (act d seen).db (act d seen).stop)
-    → Comes w.t.tx P w.around.sessions (at_target act db w a).db (at_target act db w a).stop
-comes_target P Q act db w a own keeps p does =
+    → Comes w.t.tx P w.around.sessions (at_target name act db w a).db (at_target name act db w a).stop
+comes_target P Q name act db w a own keeps p does =
     let waits = waits_in db w.around.sessions in
     let who = holders db.held waits a in
     let v = newest_version db.content a in
-    let by_case : at_outcome act (record db { held = locks_after (is_locked a.level who v) db.held (lock_of a) }) a (outcome a.level a.seen who v) ≡ at_target act db w a =
-    λ i. at_outcome act (record db { held = locks_after (sym (locked_is db.content db.held waits a) i) db.held (lock_of a) }) a (sym (outcome_is db.content db.held waits a) i) in
+    let by_case : at_outcome name act (record db { held = locks_after (is_locked a.level who v) db.held (lock_of a) }) a (outcome a.level a.seen who v) ≡ at_target name act db w a =
+    λ i. at_outcome name act (record db { held = locks_after (sym (locked_is db.content db.held waits a) i) db.held (lock_of a) }) a (sym (outcome_is db.content db.held waits a) i) in
     subst (λ (y : Visit). Comes w.t.tx P w.around.sessions y.db y.stop) by_case
-    (at_case w.t.tx P w.around.sessions act db a a.level who v p
+    (at_case w.t.tx P w.around.sessions name act db a a.level who v p
     (λ none is. let t = version_there db.content a is in
-    keeps.lock db (lock_of a) own (record { free = nobody_says _ _ none; place = t.place; write = t.write; there = t.there; its = t.its }) p) does
-    (λ e. let o = others_say _ _ e in subst (λ t. Refused t w.around.sessions db (Row a.seen.row a.strength)) own (record { free = o.0; stopped = o.1 }))
+    keeps.lock db (lock_of a) own (record { free = nobody_says a.policy _ _ none; place = t.place; write = t.write; there = t.there; its = t.its }) p) does
+    (λ e. let o = others_say a.policy _ _ e in subst (λ t. Refused t w.around.sessions db (Row a.seen.row a.strength)) own (record { free = o.0; stopped = o.1 }))
     (newer_row db.content a))
 
--- a write of a held row
-writes : (P Q : Database → Type 0) (d : Database) (w : Work) (a : Asked) (row : RowId) (values : Option (List Value)) → a.tx ≡ w.t.tx → a.strength ≡ Exclusive → Keeps w.t.tx w.t.command P Q → P d
-    → holds d.held (lock_of a) ≡ true → row ≡ a.seen.row → P (written d w row values)
-writes P Q d w a row values own strong keeps p held named =
-    keeps.write d (record { tx = w.t.tx; command = w.t.command; table = record { 0 = w.table }; row = row; values = values }) refl refl
-    (subst (λ h. holds d.held h ≡ true) (same_lock_of a w.t.tx row own strong named) held) p where
-      same_lock_of : (b : Asked) (tx : TxId) (r : RowId) → b.tx ≡ tx → b.strength ≡ Exclusive → r ≡ b.seen.row
-          → lock_of b ≡ record { row = r; tx = tx; strength = Exclusive }
-      same_lock_of b tx r e f g =
-          let mk : RowId → TxId → Strength → Held = λ r t s. record { row = r; tx = t; strength = s } in
-          ap (λ y. mk y b.tx b.strength) (sym g) ∙ (ap (λ y. mk r y b.strength) e ∙ ap (λ y. mk r tx y) f)
+-- a write of a row that is held strongly enough
+writes : (P Q : Database → Type 0) (d : Database) (w : Work) (a : Asked) (row : RowId) (values : Option (List Value)) → a.tx ≡ w.t.tx → lets_write a.strength values ≡ true → Keeps w.t.tx w.t.command P Q
+    → P d → holds d.held (lock_of a) ≡ true → row ≡ a.seen.row → P (written d w row values)
+writes P Q d w a row values own enough keeps p held named =
+    keeps.write d (record { tx = w.t.tx; command = w.t.command; table = record { 0 = w.table }; row = row; values = values }) a.strength refl refl enough
+    (subst (λ h. holds d.held h ≡ true) (same_lock_of a w.t.tx row own named) held) p where
+      same_lock_of : (b : Asked) (tx : TxId) (r : RowId) → b.tx ≡ tx → r ≡ b.seen.row → lock_of b ≡ record { row = r; tx = tx; strength = b.strength }
+      same_lock_of b tx r e g =
+          let mk : RowId → TxId → Held = λ r t. record { row = r; tx = t; strength = b.strength } in
+          ap (λ y. mk y b.tx) (sym g) ∙ ap (λ y. mk r y) e
+
+-- each strength that an UPDATE takes lets it write
+lets_update : (leaves : Bool) (values : List Value) → (let s : Strength = if leaves then NoKeyUpdate else Update in lets_write s (Some values)) ≡ true
+lets_update true values = refl
+lets_update false values = refl
 
 comes_unless_null : (x : TxId) (P : Database → Type 0) (ss : List Session) (name : List ℕ) (db : Database) (due : Visit) (o : Option (List ℕ)) → P db → Comes x P ss due.db due.stop
     → Comes x P ss (unless_null name db due o).db (unless_null name db due o).stop
@@ -318,28 +338,28 @@ keys_refuse db w name values except (key ∷ keys) r h = by (stop_at_key db w na
 
 comes_update_at : (P Q : Database → Type 0) (w : Work) (u : UpdateTree) (targets : List AssignedColumn) → Keeps w.t.tx w.t.command P Q → (db : Database) (seen : Seen) → P db
     → Comes w.t.tx P w.around.sessions (update_one w u targets db seen).db (update_one w u targets db seen).stop
-comes_update_at P Q w u targets keeps db seen p = comes_target P Q (update_with w u targets) db w a refl keeps p (λ d s q held named. made d s q held named (updated (cols_in d w) targets u.sets (values_of d s))) where
+comes_update_at P Q w u targets keeps db seen p = comes_target P Q u.table (update_with w u targets) db w a refl keeps p (λ d s q held named. made d s q held named (updated (cols_in d w) targets u.sets (values_of d s))) where
   a : Asked
-  a = ask db w Exclusive u.filter seen
+  a = ask db w (update_strength db w targets u seen.row) Wait u.filter seen
 
   made : (d : Database) (s : Seen) → P d → holds d.held (lock_of a) ≡ true → s.row ≡ a.seen.row → (r : Result (List Value) ValueFault)
       → Comes w.t.tx P w.around.sessions (update_made w u.table d s.row r).db (update_made w u.table d s.row r).stop
   made d s q held named (Err fault) = comes_fails w.t.tx P w.around.sessions d _ q
   made d s q held named (Ok values) =
       comes_unless_null w.t.tx P w.around.sessions u.table d _ _ q
-      (comes_unless_stopped w.t.tx P w.around.sessions d _ _ q (writes P Q d w a s.row (Some values) refl refl keeps q held named)
+      (comes_unless_stopped w.t.tx P w.around.sessions d _ _ q (writes P Q d w a s.row (Some values) refl (lets_update _ values) keeps q held named)
       (keys_refuse d w u.table values (Some s.row) (keys_in d w)))
 
 comes_delete_at : (P Q : Database → Type 0) (w : Work) (e : DeleteTree) → Keeps w.t.tx w.t.command P Q → (db : Database) (seen : Seen) → P db
     → Comes w.t.tx P w.around.sessions (delete_one w e db seen).db (delete_one w e db seen).stop
 comes_delete_at P Q w e keeps db seen p =
-    comes_target P Q (delete_with w) db w (ask db w Exclusive e.filter seen) refl keeps p
-    (λ d s q held named. comes_on w.t.tx P w.around.sessions _ [] (writes P Q d w (ask db w Exclusive e.filter seen) s.row None refl refl keeps q held named))
+    comes_target P Q e.table (delete_with w) db w (ask db w Update Wait e.filter seen) refl keeps p
+    (λ d s q held named. comes_on w.t.tx P w.around.sessions _ [] (writes P Q d w (ask db w Update Wait e.filter seen) s.row None refl refl keeps q held named))
 
 comes_lock_at : (P Q : Database → Type 0) (w : Work) (s : SelectTree) (l : Lock) → Keeps w.t.tx w.t.command P Q → (db : Database) (seen : Seen) → P db
     → Comes w.t.tx P w.around.sessions (lock_one w s l db seen).db (lock_one w s l db seen).stop
 comes_lock_at P Q w s l keeps db seen p =
-    comes_target P Q (lock_with w s) db w (ask db w (strength_of l) s.filter seen) refl keeps p (λ d v q held named. made d q (row_values (cols_in d w) s.items (values_of d v))) where
+    comes_target P Q (unwrap_or s.table []) (lock_with w s) db w (ask db w l.strength l.policy s.filter seen) refl keeps p (λ d v q held named. made d q (row_values (cols_in d w) s.items (values_of d v))) where
       made : (d : Database) → P d → (r : Result (List Value) ValueFault) → Comes w.t.tx P w.around.sessions (lock_made d r).db (lock_made d r).stop
       made d q (Err fault) = comes_fails w.t.tx P w.around.sessions d _ q
       made d q (Ok row) = comes_on w.t.tx P w.around.sessions d (row ∷ []) q

@@ -1,8 +1,11 @@
--- What an open transaction wrote is held by it alone: what holds of the locks and writes while a transaction is at work.
+-- What an open transaction wrote is held by it, so that nobody else writes it: what holds of the locks and writes while a transaction is at work.
 use Rattle.std.proofs.Common.{◌≡◌, refl, sym, ◌∙◌, ap, subst, ◌⊎◌, inl, inr, ⊎_elim, Bool, true, false, ◌||◌, ◌&&◌, ◌==◌, not, cond, ℕ, zero, suc, ◌<◌, ◌≤◌, List, [], ◌∷◌, length, length-append, length-set, set, arith}
-use Rattle.std.specs.Prelude.{Some, slice_get}
+use Rattle.std.specs.Prelude.{Option, Some, slice_get}
 use Rattle.std.proofs.lemmas.Bool.{cases_eq}
 use Rattle.std.proofs.lemmas.Option.{slice_get_within}
+use Rattle.sql_trees.specs.declared.stmt.Strength.{Strength}
+use Rattle.sql_trees.specs.declared.stmt.Strength.TheVariants.{KeyShare, Share, NoKeyUpdate, Update}
+use Rattle.sql_values.specs.declared.value.Value.{Value}
 use Rattle.row_versions.specs.declared.names.TxId.{TxId}
 use Rattle.row_versions.specs.declared.names.RowId.{RowId}
 use Rattle.row_versions.specs.declared.write.Write.{Write}
@@ -10,12 +13,10 @@ use Rattle.row_versions.specs.declared.write.Fate.{Fate}
 use Rattle.row_versions.specs.declared.write.Fate.TheVariants.{RolledBack, Committed, Open as OpenFate}
 use Rattle.row_versions.specs.Log.{IsOpen, commit_count, new_row, after_write}
 use Rattle.row_versions.proofs.Gets.{get-append_left, get-append_last}
-use Rattle.row_locks.specs.declared.held.Strength.{Strength}
-use Rattle.row_locks.specs.declared.held.Strength.TheVariants.{Share, Exclusive}
 use Rattle.row_locks.specs.declared.held.Held.{Held}
 use Rattle.row_versions.specs.Members.{has, same_tx, is_none_of}
-use Rattle.row_locks.specs.Held.{conflicts, holders_against, holds, lock_of_write, released, same_lock, same_strength, with_lock}
-use Rattle.row_locks.proofs.Holding.{blockers_hold}
+use Rattle.row_locks.specs.Held.{conflicts, holders_against, holds, released, same_lock, same_strength, with_lock}
+use Rattle.row_locks.proofs.Holding.{blockers_hold, conflicts_both_ways}
 use Rattle.row_locks.proofs.Reaching.{or_cases, or_left, or_right, and_both, same_is}
 use Rattle.row_locks.proofs.Waiting.{bool_is}
 use Rattle.session_machine.specs.declared.session.Transaction.{Transaction}
@@ -24,6 +25,7 @@ use Rattle.session_machine.specs.Tables.{Database}
 use Rattle.session_machine.specs.Inner.Statements.{begun}
 use Rattle.session_machine.specs.Sound.{tx_in}
 use Rattle.session_laws.proofs.Lists.{slice_get-set_other}
+use Rattle.wait_laws.specs.Laws.{lets_write, lock_of_write}
 use Rattle.wait_laws.proofs.Lists.{get_more, holds_before, holds_last, holds_more, holds_released}
 use Rattle.wait_laws.proofs.Doing.{Keeps, MayTake, doer, start}
 use Rattle.wait_laws.proofs.KeyBlockers.{AreApart}
@@ -31,10 +33,17 @@ use Rattle.wait_laws.proofs.KeyBlockers.{AreApart}
 abbrev lock : RowId → TxId → Strength → Held
 lock row tx strength = record { row = row; tx = tx; strength = strength }
 
+-- a write's transaction holds its row: so strongly that it may write it, and at Update where this place of the log, which is the write's, names the row
+pub record IsHeldFor (held : List Held) (place : ℕ) (w : Write) : Type 0 where
+  pub strength : Strength
+  pub locked : holds held (lock_of_write strength w) ≡ true
+  pub enough : lets_write strength w.values ≡ true
+  pub inserted : w.row.0 ≡ place → strength ≡ Update
+
 -- each write is of a transaction that has begun, and that holds its row while it is open; what is written and locked is in the log; and no two hold a row in conflict
 pub record AreHeld (db : Database) : Type 0 where
   pub known : (place : ℕ) (w : Write) → slice_get db.content.log place ≡ Some w → w.tx.0 < length db.content.fates
-  pub held : (place : ℕ) (w : Write) → slice_get db.content.log place ≡ Some w → IsOpen db.content w.tx → holds db.held (lock_of_write w) ≡ true
+  pub held : (place : ℕ) (w : Write) → slice_get db.content.log place ≡ Some w → IsOpen db.content w.tx → IsHeldFor db.held place w
   pub rows : (place : ℕ) (w : Write) → slice_get db.content.log place ≡ Some w → w.row.0 < length db.content.log
   pub locks : (h : Held) → holds db.held h ≡ true → h.row.0 < length db.content.log
   pub apart : (row : RowId) (a b : TxId) (s t : Strength) → (a ≡ b → ⊥) → holds db.held (lock row a s) ≡ true → holds db.held (lock row b t) ≡ true → conflicts s t ≡ false
@@ -47,19 +56,41 @@ pub record AreHeldBy (x : TxId) (db : Database) : Type 0 where
 pub begun_by : (x : TxId) (db : Database) → AreHeldBy x db → x.0 < length db.content.fates
 begun_by x db p = slice_get_within db.content.fates x.0 OpenFate p.mine
 
+-- strengths at which a row may be written conflict
+writers_conflict : (s t : Strength) (v w : Option (List Value)) → lets_write s v ≡ true → lets_write t w ≡ true → conflicts s t ≡ true
+writers_conflict Update Update v w h k = refl
+writers_conflict Update NoKeyUpdate v w h k = refl
+writers_conflict NoKeyUpdate Update v w h k = refl
+writers_conflict NoKeyUpdate NoKeyUpdate v w h k = refl
+writers_conflict Update Share v w h k = cc
+writers_conflict Update KeyShare v w h k = cc
+writers_conflict NoKeyUpdate Share v w h k = cc
+writers_conflict NoKeyUpdate KeyShare v w h k = cc
+writers_conflict Share t v w h k = cc
+writers_conflict KeyShare t v w h k = cc
+
 -- no two open transactions wrote one row
 pub writes_apart : (db : Database) → AreHeld db → AreApart db.content
-writes_apart db p i j v w at there v_open w_open row = ⊎_elim (λ e. let mk : ℕ → TxId = λ n. record { 0 = n } in ap mk e) (λ ne. absurd (never (apart ne))) (cases_eq v.tx.0 w.tx.0) where
+writes_apart db p i j v w at there v_open w_open row = ⊎_elim (λ e. let mk : ℕ → TxId = λ n. record { 0 = n } in ap mk e) (λ ne. absurd (never (sym both ∙ apart ne))) (cases_eq v.tx.0 w.tx.0) where
   mk : ℕ → RowId
   mk n = record { 0 = n }
 
   never : true ≡ false → ⊥
   never h = cc
 
-  apart : (v.tx.0 ≡ w.tx.0 → ⊥) → conflicts Exclusive Exclusive ≡ false
+  one : IsHeldFor db.held i v
+  one = p.held i v at v_open
+
+  other : IsHeldFor db.held j w
+  other = p.held j w there w_open
+
+  both : conflicts one.strength other.strength ≡ true
+  both = writers_conflict one.strength other.strength v.values w.values one.enough other.enough
+
+  apart : (v.tx.0 ≡ w.tx.0 → ⊥) → conflicts one.strength other.strength ≡ false
   apart ne =
-      p.apart v.row v.tx w.tx Exclusive Exclusive (λ e. ne (ap (λ (t : TxId). t.0) e)) (p.held i v at v_open)
-      (subst (λ (r : RowId). holds db.held (lock r w.tx Exclusive) ≡ true) (sym (ap mk row)) (p.held j w there w_open))
+      p.apart v.row v.tx w.tx one.strength other.strength (λ e. ne (ap (λ (t : TxId). t.0) e)) one.locked
+      (subst (λ (r : RowId). holds db.held (lock r w.tx other.strength) ≡ true) (sym (ap mk row)) other.locked)
 
 -- a transaction that ends isn't open
 not_open : (fs : List Fate) (i : ℕ) (f : Fate) → (f ≡ OpenFate → ⊥) → slice_get (set fs i f) i ≡ Some OpenFate → ⊥
@@ -92,6 +123,11 @@ holds_left (g ∷ held) x h ne e = at (holds_left held x h ne) (bool_is (same_tx
   at on (inr f) (inl k) = kept false f refl (or_left (same_lock g h) (holds (released x held) h) k)
   at on (inr f) (inr k) = kept false f refl (or_right (same_lock g h) (holds (released x held) h) (on k))
 
+-- a row is held for its write where what the write's transaction holds of it stays
+still_held : (held others : List Held) (place : ℕ) (w : Write) → ((s : Strength) → holds held (lock_of_write s w) ≡ true → holds others (lock_of_write s w) ≡ true)
+    → IsHeldFor held place w → IsHeldFor others place w
+still_held held others place w stays h = record { strength = h.strength; locked = stays h.strength h.locked; enough = h.enough; inserted = h.inserted }
+
 held_ends : (x : TxId) (d : Database) (f : Fate) → (f ≡ OpenFate → ⊥) → AreHeld d
     → AreHeld (record d { content = record { log = d.content.log; fates = set d.content.fates x.0 f }; held = released x d.held })
 held_ends x d f ne h = record {
@@ -99,19 +135,13 @@ held_ends x d f ne h = record {
   held = λ place w at is.
       ⊎_elim
       (λ e. absurd (not_open d.content.fates x.0 f ne (subst (λ n. slice_get (set d.content.fates x.0 f) n ≡ Some OpenFate) e is)))
-      (λ other. holds_left d.held x (lock_of_write w) (λ e. other (ap (λ (t : TxId). t.0) e))
+      (λ other. still_held d.held (released x d.held) place w (λ s. holds_left d.held x (lock_of_write s w) (λ e. other (ap (λ (t : TxId). t.0) e)))
       (h.held place w at (sym (slice_get-set_other d.content.fates x.0 w.tx.0 f other) ∙ is)))
       (cases_eq w.tx.0 x.0);
   rows = h.rows;
   locks = λ l e. h.locks l (holds_released d.held x l e);
   apart = λ row a b s t ne e k. h.apart row a b s t ne (holds_released d.held x (lock row a s) e) (holds_released d.held x (lock row b t) k);
 }
-
-conflict_both : (s t : Strength) → conflicts s t ≡ conflicts t s
-conflict_both Share Share = refl
-conflict_both Share Exclusive = refl
-conflict_both Exclusive Share = refl
-conflict_both Exclusive Exclusive = refl
 
 none_has : (bs : List TxId) (u : TxId) → is_none_of bs ≡ true → has bs u ≡ true → ⊥
 none_has [] u h k = cc
@@ -141,7 +171,7 @@ apart_more held l free old row a b s t ne e k = by (holds_more held l (lock row 
 
   by : (holds held (lock row a s) ≡ true) ⊎ (l ≡ lock row a s) → (holds held (lock row b t) ≡ true) ⊎ (l ≡ lock row b t) → conflicts s t ≡ false
   by (inl f) (inl g) = old row a b s t ne f g
-  by (inr f) (inl g) = conflict_both s t ∙ first b t ne f g
+  by (inr f) (inl g) = conflicts_both_ways s t ∙ first b t ne f g
   by (inl f) (inr g) = second g f
   by (inr f) (inr g) = absurd (ne (sym (ap (λ (h : Held). h.tx) f) ∙ ap (λ (h : Held). h.tx) g))
 
@@ -150,7 +180,7 @@ held_lock x d h may p = record {
   mine = p.mine;
   all = record {
     known = p.all.known;
-    held = λ place w at is. holds_before d.held h (lock_of_write w) (p.all.held place w at is);
+    held = λ place w at is. still_held d.held (with_lock d.held h) place w (λ s. holds_before d.held h (lock_of_write s w)) (p.all.held place w at is);
     rows = p.all.rows;
     locks = λ l e. ⊎_elim (p.all.locks l) (λ is. let a = p.all.rows may.place may.write may.there in let b = may.its in
         let c : h.row.0 ≡ l.row.0 = ap (λ (g : Held). g.row.0) is in omega arith) (holds_more d.held h l e);
@@ -159,51 +189,60 @@ held_lock x d h may p = record {
 }
 
 -- the transaction writes a row that it holds, among locks of which those that were held before are some
-held_wrote : (x : TxId) (d : Database) (w : Write) (locks : List Held) → w.tx ≡ x → holds locks (lock_of_write w) ≡ true
+held_wrote : (x : TxId) (d : Database) (w : Write) (locks : List Held) → w.tx ≡ x → IsHeldFor locks (length d.content.log) w
     → ((h : Held) → holds d.held h ≡ true → holds locks h ≡ true) → ((h : Held) → holds locks h ≡ true → h.row.0 ≤ length d.content.log)
     → ((row : RowId) (a b : TxId) (s t : Strength) → (a ≡ b → ⊥) → holds locks (lock row a s) ≡ true → holds locks (lock row b t) ≡ true → conflicts s t ≡ false)
     → AreHeldBy x d → AreHeldBy x (record d { content = after_write d.content w; held = locks })
-held_wrote x d w locks own locked before within apart p =
+held_wrote x d w locks own its before within apart p =
     let long = length-append d.content.log (w ∷ []) in
     record {
       mine = p.mine;
       all = record {
         known = λ place v at. elim (get_more d.content.log w place v at) [
           | inl k ↦ p.all.known place v k
-          | inr k ↦ subst (λ (t : TxId). t.0 < length d.content.fates) (sym own ∙ ap (λ (y : Write). y.tx) k) (begun_by x d p)
+          | inr k ↦ subst (λ (t : TxId). t.0 < length d.content.fates) (sym own ∙ ap (λ (y : Write). y.tx) k.1) (begun_by x d p)
         ];
         held = λ place v at is. elim (get_more d.content.log w place v at) [
-          | inl k ↦ before (lock_of_write v) (p.all.held place v k is)
-          | inr k ↦ subst (λ (y : Write). holds locks (lock_of_write y) ≡ true) k locked
+          | inl k ↦ still_held d.held locks place v (λ s. before (lock_of_write s v)) (p.all.held place v k is)
+          | inr k ↦ subst (λ (y : Write). IsHeldFor locks place y) k.1 (subst (λ n. IsHeldFor locks n w) (sym k.0) its)
         ];
         rows = λ place v at. elim (get_more d.content.log w place v at) [
           | inl k ↦ let l = p.all.rows place v k in omega arith
-          | inr k ↦ let l = within (lock_of_write w) locked in let e : w.row.0 ≡ v.row.0 = ap (λ (y : Write). y.row.0) k in omega arith
+          | inr k ↦ let l = within (lock_of_write its.strength w) its.locked in let e : w.row.0 ≡ v.row.0 = ap (λ (y : Write). y.row.0) k.1 in omega arith
         ];
         locks = λ h e. let l = within h e in omega arith;
         apart = apart;
       };
     }
 
-held_write : (x : TxId) (d : Database) (w : Write) → w.tx ≡ x → holds d.held (lock_of_write w) ≡ true → AreHeldBy x d → AreHeldBy x (record d { content = after_write d.content w })
-held_write x d w own locked p = held_wrote x d w d.held own locked (λ h e. e) (λ h e. let l = p.all.locks h e in omega arith) p.all.apart p
+held_write : (x : TxId) (d : Database) (w : Write) (s : Strength) → w.tx ≡ x → lets_write s w.values ≡ true → holds d.held (lock_of_write s w) ≡ true → AreHeldBy x d
+    → AreHeldBy x (record d { content = after_write d.content w })
+held_write x d w s own enough locked p = held_wrote x d w d.held own its (λ h e. e) (λ h e. let l = p.all.locks h e in omega arith) p.all.apart p where
+  its : IsHeldFor d.held (length d.content.log) w
+  its = record {
+    strength = s;
+    locked = locked;
+    enough = enough;
+    inserted = λ e. let l = p.all.locks (lock_of_write s w) locked in let z : ⊥ = omega arith in absurd z;
+  }
 
 held_insert : (x : TxId) (d : Database) (w : Write) → w.tx ≡ x → w.row ≡ new_row d.content → AreHeldBy x d
-    → AreHeldBy x (record d { content = after_write d.content w; held = with_lock d.held (lock_of_write w) })
+    → AreHeldBy x (record d { content = after_write d.content w; held = with_lock d.held (lock_of_write Update w) })
 held_insert x d w own made p =
+    let new = lock_of_write Update w in
     let last : w.row.0 ≡ length d.content.log = ap (λ (r : RowId). r.0) made in
-    held_wrote x d w (with_lock d.held (lock_of_write w)) own (holds_last d.held (lock_of_write w)) (λ h e. holds_before d.held (lock_of_write w) h e)
-    (λ h e. elim (holds_more d.held (lock_of_write w) h e) [
+    held_wrote x d w (with_lock d.held new) own (record { strength = Update; locked = holds_last d.held new; enough = refl; inserted = λ e. refl }) (λ h e. holds_before d.held new h e)
+    (λ h e. elim (holds_more d.held new h e) [
       | inl k ↦ let l = p.all.locks h k in omega arith
       | inr k ↦ let f : w.row.0 ≡ h.row.0 = ap (λ (g : Held). g.row.0) k in omega arith
     ])
-    (apart_more d.held (lock_of_write w) (λ b t ne e. let l = p.all.locks (lock w.row b t) e in let z : ⊥ = omega arith in absurd z) p.all.apart) p
+    (apart_more d.held new (λ b t ne e. let l = p.all.locks (lock w.row b t) e in let z : ⊥ = omega arith in absurd z) p.all.apart) p
 
 pub held_keeps : (x : TxId) (n : ℕ) → Keeps x n (AreHeldBy x) AreHeld
 held_keeps x n = record {
   lock = λ d h own may p. held_lock x d h may p;
   insert = λ d w own now made p. held_insert x d w own made p;
-  write = λ d w own now locked p. held_write x d w own locked p;
+  write = λ d w strength own now enough locked p. held_write x d w strength own enough locked p;
   create = λ d made p. record { mine = p.mine; all = record { known = p.all.known; held = p.all.held; rows = p.all.rows; locks = p.all.locks; apart = p.all.apart } };
   drop = λ d k p. record { mine = p.mine; all = record { known = p.all.known; held = p.all.held; rows = p.all.rows; locks = p.all.locks; apart = p.all.apart } };
   commit = λ d p. held_ends x d (Committed (commit_count d.content)) (λ e. cc) p.all;

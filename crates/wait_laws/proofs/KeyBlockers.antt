@@ -189,7 +189,7 @@ less_written c w k tx u is_open_now ne h =
     (λ at. blocks_to c k tx u f.place f.write at f.its
     (way_kept (after_write c w) c k tx f.write (λ o. o) (committed_more (has_committed c) c.log w k.columns k.values f.write.row (uncommitted c w.tx is_open_now))
     (any_less _ c.log w (not_of_other w f.write.row f.write.tx k.columns k.values (λ e. ne (sym (e ∙ f.its))))) f.passes))
-    (λ is. absurd (ne (sym (ap (λ (y : Write). y.tx) is ∙ f.its))))
+    (λ is. absurd (ne (sym (ap (λ (y : Write). y.tx) is.1 ∙ f.its))))
     (get_more c.log w f.place f.write f.there)
 
 pub more_written : (c : Content) (w : Write) (k : AskedKey) (tx u : TxId) → IsOpen c w.tx → has (blocking c k tx) u ≡ true → has (blocking (after_write c w) k tx) u ≡ true

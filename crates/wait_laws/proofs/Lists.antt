@@ -1,23 +1,14 @@
 -- What a list has at a place after a change, and which locks are held after one more.
-use Rattle.std.proofs.Common.{◌≡◌, ◌⊎◌, inl, inr, ⊎_elim, ℕ, zero, suc, Bool, true, false, not, cond, ◌||◌, ◌&&◌, ◌==◌, List, [], ◌∷◌, ◌++◌, refl, sym, ap, ◌∙◌}
+use Rattle.std.proofs.Common.{◌≡◌, ◌⊎◌, inl, inr, ⊎_elim, ℕ, zero, suc, Bool, true, false, not, cond, ◌||◌, List, [], ◌∷◌, ◌++◌, length, refl, sym, ap, ◌∙◌}
 use Rattle.std.specs.Prelude.{Some, slice_get}
-use Rattle.std.proofs.lemmas.Bool.{eq-eqb, eqb-true}
 use Rattle.std.proofs.lemmas.List.Folds.{list_any-append}
-use Rattle.row_locks.specs.declared.held.Strength.{Strength}
-use Rattle.row_locks.specs.declared.held.Strength.TheVariants.{Share, Exclusive}
 use Rattle.row_locks.specs.declared.held.Held.{Held}
 use Rattle.row_versions.specs.Members.{same_tx}
 use Rattle.row_versions.specs.declared.names.TxId.{TxId}
 use Rattle.row_versions.specs.declared.write.Write.{Write}
-use Rattle.row_locks.specs.Held.{same_strength, same_lock, holds, released, with_lock}
-use Rattle.row_locks.proofs.Reaching.{or_cases, or_left, or_right, and_both, both_and, is_same, same_is}
-
-is_strength : (a : Strength) → same_strength a a ≡ true
-is_strength Share = refl
-is_strength Exclusive = refl
-
-pub is_lock : (a : Held) → same_lock a a ≡ true
-is_lock a = both_and _ (same_strength a.strength a.strength) (both_and _ (same_tx a.tx a.tx) (eq-eqb a.row.0 a.row.0 refl) (is_same a.tx)) (is_strength a.strength)
+use Rattle.row_locks.specs.Held.{same_lock, holds, released, with_lock}
+use Rattle.row_locks.proofs.Holding.{is_lock, lock_is}
+use Rattle.row_locks.proofs.Reaching.{or_cases, or_left, or_right}
 
 -- the lock that was taken last is held
 pub holds_last : (held : List Held) (h : Held) → holds (with_lock held h) h ≡ true
@@ -33,27 +24,14 @@ same_write : (w v : Write) → Some w ≡ Some v → w ≡ v
 same_write w v h = cc
 
 -- what a longer log has at a place stood there, or is the last
-pub get_more : (xs : List Write) (y : Write) (k : ℕ) (x : Write) → slice_get (xs ++ y ∷ []) k ≡ Some x → (slice_get xs k ≡ Some x) ⊎ (y ≡ x)
-get_more [] y zero x h = inr (same_write y x h)
+pub get_more : (xs : List Write) (y : Write) (k : ℕ) (x : Write) → slice_get (xs ++ y ∷ []) k ≡ Some x → (slice_get xs k ≡ Some x) ⊎ ((k ≡ length xs) × (y ≡ x))
+get_more [] y zero x h = inr (refl, same_write y x h)
 get_more [] y (suc k) x h = cc
 get_more (z ∷ zs) y zero x h = inl h
-get_more (z ∷ zs) y (suc k) x h = get_more zs y k x h
+get_more (z ∷ zs) y (suc k) x h = ⊎_elim inl (λ m. inr (ap suc m.0, m.1)) (get_more zs y k x h)
 
 false_not : false ≡ true → ⊥
 false_not h = cc
-
-strength_is : (s t : Strength) → same_strength s t ≡ true → s ≡ t
-strength_is Share Share h = refl
-strength_is Share Exclusive h = cc
-strength_is Exclusive Share h = cc
-strength_is Exclusive Exclusive h = refl
-
-lock_is : (a b : Held) → same_lock a b ≡ true → a ≡ b
-lock_is a b h =
-    let p = and_both ((a.row.0 == b.row.0) && same_tx a.tx b.tx) (same_strength a.strength b.strength) h in
-    let q = and_both (a.row.0 == b.row.0) (same_tx a.tx b.tx) p.0 in
-    let mk : ℕ → TxId → Strength → Held = λ r t s. record { row = record { 0 = r }; tx = t; strength = s } in
-    ap (λ r. mk r a.tx a.strength) (eqb-true a.row.0 b.row.0 q.0) ∙ (ap (λ t. mk b.row.0 t a.strength) (same_is a.tx b.tx q.1) ∙ ap (λ s. mk b.row.0 b.tx s) (strength_is a.strength b.strength p.1))
 
 -- a longer list of locks holds what it held, and the last
 pub holds_more : (held : List Held) (l h : Held) → holds (with_lock held l) h ≡ true → (holds held h ≡ true) ⊎ (l ≡ h)

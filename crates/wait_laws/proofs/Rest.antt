@@ -5,6 +5,7 @@ use Rattle.std.proofs.lemmas.Bool.{ltb-true}
 use Rattle.std.proofs.lemmas.Option.{slice_get_within}
 use Rattle.std.proofs.lemmas.Nat.{mul-add-lt}
 use Rattle.std.proofs.Math.Nat.{mul_comm}
+use Rattle.sql_trees.specs.declared.stmt.Strength.TheVariants.{Update}
 use Rattle.row_versions.specs.declared.names.TxId.{TxId}
 use Rattle.row_versions.specs.declared.write.Write.{Write}
 use Rattle.row_versions.specs.declared.write.Fate.TheVariants.{Open as OpenFate}
@@ -12,7 +13,7 @@ use Rattle.row_versions.specs.Log.{IsOpen, after_begin, after_write}
 use Rattle.row_versions.proofs.Gets.{get-append_last}
 use Rattle.row_locks.specs.declared.held.Held.{Held}
 use Rattle.row_versions.specs.Members.{has, is_none_of}
-use Rattle.row_locks.specs.Held.{lock_of_write, with_lock}
+use Rattle.row_locks.specs.Held.{with_lock}
 use Rattle.row_locks.specs.Inner.Searching.{is_against}
 use Rattle.row_locks.proofs.Against.{some_are_against}
 use Rattle.row_locks.proofs.Reaching.{or_left, and_both, both_and}
@@ -40,7 +41,7 @@ use Rattle.session_machine.specs.Running.{run_stmt}
 use Rattle.session_machine.specs.Machine.{Machine, Blocks, Next, next, stmts_of, is_failed, closed_at_end, after_stmt, session_of, Run}
 use Rattle.session_machine.specs.Inner.Steps.{step_of, is_stopped, finished, waits_there, after_block_end, around, is_busy}
 use Rattle.session_machine.specs.Sound.{command_in, tx_in, tx_of}
-use Rattle.wait_laws.specs.Laws.{left_from, left_of, statements_left, can_step, able, IsNearerRest, AreSteps, RestIsReached}
+use Rattle.wait_laws.specs.Laws.{lock_of_write, left_from, left_of, statements_left, can_step, able, IsNearerRest, AreSteps, RestIsReached}
 use Rattle.wait_laws.proofs.Counting.{sum_set, count_set, count_most}
 use Rattle.wait_laws.proofs.Doing.{Keeps, Ran, Idles, doer, start, does_stmt}
 use Rattle.wait_laws.proofs.Events.{session_there, Stepped, stepped, moved}
@@ -85,9 +86,9 @@ still_keeps x n db = record {
   lock = λ d h own may p. record { mine = p.mine; still = λ r tx e. blocked_more d h r tx (p.still r tx e) };
   insert = λ d w own now made p. record {
     mine = p.mine;
-    still = λ r tx e. blocked_more (record d { content = after_write d.content w }) (lock_of_write w) r tx (blocked_written d w (subst (IsOpen d.content) (sym own) p.mine) r tx (p.still r tx e));
+    still = λ r tx e. blocked_more (record d { content = after_write d.content w }) (lock_of_write Update w) r tx (blocked_written d w (subst (IsOpen d.content) (sym own) p.mine) r tx (p.still r tx e));
   };
-  write = λ d w own now held p. record { mine = p.mine; still = λ r tx e. blocked_written d w (subst (IsOpen d.content) (sym own) p.mine) r tx (p.still r tx e) };
+  write = λ d w strength own now enough held p. record { mine = p.mine; still = λ r tx e. blocked_written d w (subst (IsOpen d.content) (sym own) p.mine) r tx (p.still r tx e) };
   create = λ d made p. record { mine = p.mine; still = λ r tx e. blocked_same d (with_table d.catalog made x) r tx (p.still r tx e) };
   drop = λ d k p. record { mine = p.mine; still = λ r tx e. blocked_same d (with_drop d.catalog k x) r tx (p.still r tx e) };
   commit = λ d p. tt;
@@ -221,7 +222,7 @@ same_sessions given mode m event n h =
     let s = there.0 in
     let x = doer m.db s.transaction in
     let k = moved (λ d. Unit {0}) (λ d. Unit {0}) (λ v. Unit {0}) given mode m event s n there.1
-    (record { lock = λ d h own may p. tt; insert = λ d w own now made p. tt; write = λ d w own now held p. tt; create = λ d made p. tt; drop = λ d k p. tt; commit = λ d p. tt; roll_back = λ d p. tt; rest = λ d p. tt })
+    (record { lock = λ d h own may p. tt; insert = λ d w own now made p. tt; write = λ d w strength own now enough held p. tt; create = λ d made p. tt; drop = λ d k p. tt; commit = λ d p. tt; roll_back = λ d p. tt; rest = λ d p. tt })
     (allows_all m.db s.transaction s.statement) tt h in
     ap (λ (y : Machine). length y.sessions) k.is ∙ length-set m.sessions (session_of event) k.u
 

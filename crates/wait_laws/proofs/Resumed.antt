@@ -133,7 +133,7 @@ free_keeps : (x : TxId) (n : ℕ) → Keeps x n (λ d. Unit {0}) (λ d. Unit {0}
 free_keeps x n = record {
   lock = λ d h own may p. tt;
   insert = λ d w own now made p. tt;
-  write = λ d w own now held p. tt;
+  write = λ d w strength own now enough held p. tt;
   create = λ d made p. tt;
   drop = λ d k p. tt;
   commit = λ d p. tt;

@@ -1,11 +1,12 @@
 -- How a statement stops, by what it asks for. It is told once for the stops that are spoken of (S), which come exactly where something is so of a request (C).
 use Rattle.std.proofs.Common.{◌≡◌, ◌↔◌, refl, sym, ◌∙◌, ap, subst, inl, inr, Bool, true, false, ℕ, List, [], ◌∷◌, ◌++◌, length}
-use Rattle.std.specs.Prelude.{Option, Some, None, option_map, slice_get, filter_map, drop, is_some, Result, Ok, Err, IsTrue, if◌then◌else◌}
+use Rattle.std.specs.Prelude.{Option, Some, None, option_map, unwrap_or, slice_get, filter_map, drop, is_some, Result, Ok, Err, IsTrue, if◌then◌else◌}
 use Rattle.std.specs.Option.{option_map_or, option_or}
 use Rattle.std.specs.Result.{result_unwrap_or}
 use Rattle.std.specs.List.{cons_option}
 use Rattle.sql_trees.specs.declared.stmt.Level.{Level}
 use Rattle.sql_trees.specs.declared.stmt.Level.TheVariants.{ReadCommitted, RepeatableRead}
+use Rattle.sql_trees.specs.declared.stmt.Policy.TheVariants.{Wait}
 use Rattle.sql_trees.specs.Trees.{Tree}
 use Rattle.sql_trees.specs.Statements.{KeyTree, StmtTree, InsertTree, UpdateTree, Begin, Commit, Rollback, SetTransaction, SetDeadlockTimeout, Create, DropTables, Inserts, Updates, Deletes, Selects}
 use Rattle.sql_values.specs.declared.value.Value.{Value}
@@ -15,26 +16,26 @@ use Rattle.query_results.specs.Updates.{columns_set, updated}
 use Rattle.row_versions.specs.declared.names.TxId.{TxId}
 use Rattle.row_versions.specs.declared.names.RowId.{RowId}
 use Rattle.row_versions.specs.declared.write.Seen.{Seen}
-use Rattle.row_locks.specs.declared.held.Strength.{Strength}
 use Rattle.row_locks.specs.declared.held.Held.{Held}
 use Rattle.update_recheck.specs.Asked.{Asked}
 use Rattle.update_recheck.specs.Outcome.{Version, Same, Gone, Newer, newest_version, target_outcome, is_target_locked}
-use Rattle.update_recheck.specs.Outcome.Outcome.{Takes, Skips, Waits, Deadlocks, Serializes, Faults}
+use Rattle.update_recheck.specs.Outcome.Outcome.{Takes, Skips, Waits, Deadlocks, NotFree as IsNotFree, Serializes, Faults}
 use Rattle.update_recheck.specs.Outcome.{Outcome as TargetOutcome}
-use Rattle.update_recheck.specs.Inner.Cases.{Holders, Nobody, Others, OthersInACycle, holders, is_locked, outcome}
+use Rattle.update_recheck.specs.Inner.Cases.{Holders, Nobody, Others, OthersInACycle, OthersAtNoWait, OthersSkipped, holders, is_locked, outcome}
+use Rattle.update_recheck.specs.Settling.{lock_of}
 use Rattle.update_recheck.proofs.Cases.{outcome_is, locked_is}
 use Rattle.session_machine.specs.declared.session.Request.{Request}
 use Rattle.session_machine.specs.declared.session.Request.TheVariants.{Row, Key}
 use Rattle.session_machine.specs.declared.session.Session.{Session}
 use Rattle.session_machine.specs.declared.fault.StmtFault.{StmtFault}
-use Rattle.session_machine.specs.declared.fault.StmtFault.TheVariants.{Value as OfValue, NullValue, NotSerializable, Deadlock}
+use Rattle.session_machine.specs.declared.fault.StmtFault.TheVariants.{Value as OfValue, NullValue, NotSerializable, Deadlock, NotFree}
 use Rattle.session_machine.specs.Tables.{Database}
 use Rattle.session_machine.specs.Waits.{waits_in}
 use Rattle.session_machine.specs.Walks.{Stop, Walk, Blocked, Fails, over, passed, stopped}
-use Rattle.session_machine.specs.Rows.{Work, columns_in, cols_in, values_of, inserted, written, stop_at_key, put_row, act_on, visit_target, insert_row, over_targets}
+use Rattle.session_machine.specs.Rows.{Work, columns_in, cols_in, values_of, inserted, written, stop_at_key, put_row, act_on, policy_of, table_named, target_asked, visit_target, insert_row, over_targets}
 use Rattle.session_machine.specs.Targets.{asked_key, at_places, seen_by}
 use Rattle.wait_laws.specs.Laws.{is_worth_a_wait}
-use Rattle.wait_laws.specs.Replies.{ComesTo, AsksForKeyOf, AsksForKey, AsksToUpdate, AsksAtTarget, AsksOverTargets, AsksOver, keys_of, target_asked, with_target}
+use Rattle.wait_laws.specs.Replies.{ComesTo, AsksForKeyOf, AsksForKey, AsksToUpdate, AsksAtTarget, AsksOverTargets, AsksOver, keys_of, with_target}
 use Rattle.wait_laws.proofs.KeyStops.{key_is_exact}
 
 pub none_some : {A : Type 0} (a : A) → None ≡ Some a → ⊥
@@ -44,14 +45,15 @@ none_some a h = cc
 pub neither : {A B : Type 0} → (A → ⊥) → (B → ⊥) → A ↔ B
 neither f g = (λ a. absurd (f a), λ b. absurd (g b))
 
--- what a target's outcome stops a statement by
-abbrev pub stop_of : TargetOutcome → Seen → Strength → Option Stop
-stop_of (Takes version) seen strength = None
-stop_of Skips seen strength = None
-stop_of Waits seen strength = Some (Blocked (Row seen.row strength))
-stop_of Deadlocks seen strength = Some (Fails Deadlock)
-stop_of Serializes seen strength = Some (Fails NotSerializable)
-stop_of (Faults fault) seen strength = Some (Fails (OfValue fault))
+-- what a target's outcome stops a statement by, at the table of this name
+abbrev pub stop_of : List ℕ → Asked → TargetOutcome → Option Stop
+stop_of name ask (Takes version) = None
+stop_of name ask Skips = None
+stop_of name ask Waits = Some (Blocked (Row ask.seen.row ask.strength))
+stop_of name ask Deadlocks = Some (Fails Deadlock)
+stop_of name ask IsNotFree = Some (Fails (NotFree name))
+stop_of name ask Serializes = Some (Fails NotSerializable)
+stop_of name ask (Faults fault) = Some (Fails (OfValue fault))
 
 abbrev pub outcome_at : Database → Work → Asked → TargetOutcome
 outcome_at db w ask = target_outcome db.content db.held (waits_in db w.around.sessions) ask
@@ -60,9 +62,8 @@ outcome_at db w ask = target_outcome db.content db.held (waits_in db w.around.se
 pub record Tells (S : Option Stop → Type 0) (C : TxId → List Session → Database → Request → Type 0) : Type 0 where
   pub none : S None → ⊥
   pub other : (fault : StmtFault) → (fault ≡ Deadlock → ⊥) → S (Some (Fails fault)) → ⊥
-  pub row : (db : Database) (w : Work) (strength : Strength) (filter : Option Tree) (seen : Seen)
-      → S (stop_of (outcome_at db w (target_asked db w strength filter seen)) seen strength)
-      ↔ (IsTrue (is_worth_a_wait w.t.level (newest_version db.content (target_asked db w strength filter seen))) × C w.t.tx w.around.sessions db (Row seen.row strength))
+  pub row : (db : Database) (w : Work) (name : List ℕ) (ask : Asked) → S (stop_of name ask (outcome_at db w ask))
+      ↔ (IsTrue (is_worth_a_wait ask.level (newest_version db.content ask)) × (ask.policy ≡ Wait) × C ask.tx w.around.sessions db (Row ask.seen.row ask.strength))
   pub key : (db : Database) (w : Work) (name : List ℕ) (values : List Value) (except : Option RowId) (key : KeyTree)
       → S (stop_at_key db w name values except key) ↔ C w.t.tx w.around.sessions db (Key (asked_key w values key))
 
@@ -83,6 +84,8 @@ goes visit walk h x xs = ap (λ (v : Walk). over visit v xs) (on walk.stop h) wh
 takes_locked : (level : Level) (found version : Seen) (h : Holders) (v : Version) → outcome level found h v ≡ Takes version → is_locked level h v ≡ true
 takes_locked ReadCommitted found version OthersInACycle v e = cc
 takes_locked ReadCommitted found version Others v e = cc
+takes_locked ReadCommitted found version OthersAtNoWait v e = cc
+takes_locked ReadCommitted found version OthersSkipped v e = cc
 takes_locked ReadCommitted found version Nobody Gone e = cc
 takes_locked ReadCommitted found version Nobody Same e = refl
 takes_locked ReadCommitted found version Nobody (Newer m r) e = refl
@@ -90,6 +93,8 @@ takes_locked RepeatableRead found version h Gone e = cc
 takes_locked RepeatableRead found version h (Newer m r) e = cc
 takes_locked RepeatableRead found version OthersInACycle Same e = cc
 takes_locked RepeatableRead found version Others Same e = cc
+takes_locked RepeatableRead found version OthersAtNoWait Same e = cc
+takes_locked RepeatableRead found version OthersSkipped Same e = cc
 takes_locked RepeatableRead found version Nobody Same e = refl
 
 -- the target that is taken is locked
@@ -227,15 +232,17 @@ module _ (S : Option Stop → Type 0) (C : TxId → List Session → Database �
   acts w (DropTables d) at version = neither tells.none (λ c. let k = c.1.1 in cc)
 
   -- of a target
-  visits : (w : Work) (stmt : StmtTree) (strength : Strength) (filter : Option Tree) (walk : Walk) (seen : Seen)
-      → S (visit_target w stmt strength filter walk seen).stop
-      ↔ ((db : Database) × (request : Request) × AsksAtTarget w stmt strength filter walk.db seen db request × C w.t.tx w.around.sessions db request)
-  visits w stmt strength filter walk seen = by (outcome_at walk.db w ask) refl (is_target_locked walk.db.content walk.db.held (waits_in walk.db w.around.sessions) ask) refl where
+  visits : (w : Work) (stmt : StmtTree) (walk : Walk) (seen : Seen) → S (visit_target w stmt walk seen).stop
+      ↔ ((db : Database) × (request : Request) × AsksAtTarget w stmt walk.db seen db request × C w.t.tx w.around.sessions db request)
+  visits w stmt walk seen = by (outcome_at walk.db w ask) refl (is_target_locked walk.db.content walk.db.held (waits_in walk.db w.around.sessions) ask) refl where
     ask : Asked
-    ask = target_asked walk.db w strength filter seen
+    ask = target_asked walk.db w stmt seen
+
+    name : List ℕ
+    name = unwrap_or (table_named stmt) []
 
     lock : Held
-    lock = record { row = seen.row; tx = w.t.tx; strength = strength }
+    lock = lock_of ask
 
     at : Bool → Walk
     at b = record walk { db = record walk.db { held = if b then walk.db.held ++ lock ∷ [] else walk.db.held } }
@@ -243,25 +250,26 @@ module _ (S : Option Stop → Type 0) (C : TxId → List Session → Database �
     settled : Bool → TargetOutcome → Walk
     settled b (Takes version) = act_on w stmt (at b) version
     settled b Skips = passed (at b) (at b).db []
-    settled b Waits = stopped (at b) (Blocked (Row seen.row strength))
+    settled b Waits = stopped (at b) (Blocked (Row seen.row ask.strength))
     settled b Deadlocks = stopped (at b) (Fails Deadlock)
+    settled b IsNotFree = stopped (at b) (Fails (NotFree name))
     settled b Serializes = stopped (at b) (Fails NotSerializable)
     settled b (Faults fault) = stopped (at b) (Fails (OfValue fault))
 
     Asked_here : Type 0
-    Asked_here = (db : Database) × (request : Request) × AsksAtTarget w stmt strength filter walk.db seen db request × C w.t.tx w.around.sessions db request
+    Asked_here = (db : Database) × (request : Request) × AsksAtTarget w stmt walk.db seen db request × C w.t.tx w.around.sessions db request
 
-    row : S (stop_of (outcome_at walk.db w ask) seen strength)
-        ↔ (IsTrue (is_worth_a_wait w.t.level (newest_version walk.db.content ask)) × C w.t.tx w.around.sessions walk.db (Row seen.row strength))
-    row = tells.row walk.db w strength filter seen
+    row : S (stop_of name ask (outcome_at walk.db w ask))
+        ↔ (IsTrue (is_worth_a_wait w.t.level (newest_version walk.db.content ask)) × (policy_of stmt ≡ Wait) × C w.t.tx w.around.sessions walk.db (Row seen.row ask.strength))
+    row = tells.row walk.db w name ask
 
     -- where the outcome isn't that a version is taken
-    stops : (o : TargetOutcome) → outcome_at walk.db w ask ≡ o → ((version : Seen) → o ≡ Takes version → ⊥) → S (stop_of o seen strength) ↔ Asked_here
+    stops : (o : TargetOutcome) → outcome_at walk.db w ask ≡ o → ((version : Seen) → o ≡ Takes version → ⊥) → S (stop_of name ask o) ↔ Asked_here
     stops o e never = (
-      λ s. let c = row.0 (subst (λ (y : TargetOutcome). S (stop_of y seen strength)) (sym e) s) in (walk.db, Row seen.row strength, inl (refl, (refl, c.0)), c.1),
+      λ s. let c = row.0 (subst (λ (y : TargetOutcome). S (stop_of name ask y)) (sym e) s) in (walk.db, Row seen.row ask.strength, inl (refl, (refl, c.1, c.0)), c.2),
       λ c. elim c.2 [
-        | inl k ↦ subst (λ (y : TargetOutcome). S (stop_of y seen strength)) e
-            (row.1 (k.1.1, subst (C w.t.tx w.around.sessions walk.db) k.1.0 (subst (λ (d : Database). C w.t.tx w.around.sessions d c.1) k.0 c.3)))
+        | inl k ↦ subst (λ (y : TargetOutcome). S (stop_of name ask y)) e
+            (row.1 (k.1.2, k.1.1, subst (C w.t.tx w.around.sessions walk.db) k.1.0 (subst (λ (d : Database). C w.t.tx w.around.sessions d c.1) k.0 c.3)))
         | inr k ↦ absurd (never k.2 (sym e ∙ k.3))
       ],
     )
@@ -269,15 +277,15 @@ module _ (S : Option Stop → Type 0) (C : TxId → List Session → Database �
     takes : (version : Seen) → outcome_at walk.db w ask ≡ Takes version → S (act_on w stmt (at true) version).stop ↔ Asked_here
     takes version e =
         let on = acts w stmt (at true) version in (
-          λ s. let c = on.0 s in (with_target walk.db w strength seen, c.0, inr (c.1.0, c.1.1, version, e, refl, c.1.2), c.2),
+          λ s. let c = on.0 s in (with_target walk.db w stmt seen, c.0, inr (c.1.0, c.1.1, version, e, refl, c.1.2), c.2),
           λ c. elim c.2 [
-            | inl k ↦ absurd (tells.none (subst (λ (y : TargetOutcome). S (stop_of y seen strength)) e
-                (row.1 (k.1.1, subst (C w.t.tx w.around.sessions walk.db) k.1.0 (subst (λ (d : Database). C w.t.tx w.around.sessions d c.1) k.0 c.3)))))
+            | inl k ↦ absurd (tells.none (subst (λ (y : TargetOutcome). S (stop_of name ask y)) e
+                (row.1 (k.1.2, k.1.1, subst (C w.t.tx w.around.sessions walk.db) k.1.0 (subst (λ (d : Database). C w.t.tx w.around.sessions d c.1) k.0 c.3)))))
             | inr k ↦
                 let same = same_outcome k.2 version (sym k.3 ∙ e) in
                 on.1 (
                   c.1,
-                  (k.0, k.1, subst (λ (v : Seen). AsksToUpdate (with_target walk.db w strength seen) w k.0 v c.1) same (subst (λ (d : Database). AsksToUpdate d w k.0 k.2 c.1) k.4 k.5)),
+                  (k.0, k.1, subst (λ (v : Seen). AsksToUpdate (with_target walk.db w stmt seen) w k.0 v c.1) same (subst (λ (d : Database). AsksToUpdate d w k.0 k.2 c.1) k.4 k.5)),
                   subst (λ (d : Database). C w.t.tx w.around.sessions d c.1) k.4 c.3,
                 )
           ],
@@ -292,28 +300,29 @@ module _ (S : Option Stop → Type 0) (C : TxId → List Session → Database �
     by Skips e b f = stops Skips e (λ v k. cc)
     by Waits e b f = stops Waits e (λ v k. cc)
     by Deadlocks e b f = stops Deadlocks e (λ v k. cc)
+    by IsNotFree e b f = stops IsNotFree e (λ v k. cc)
     by Serializes e b f = stops Serializes e (λ v k. cc)
     by (Faults fault) e b f = stops (Faults fault) e (λ v k. cc)
 
   -- of all targets
-  pub over_all : (w : Work) (stmt : StmtTree) (strength : Strength) (filter : Option Tree) (walk : Walk) → walk.stop ≡ None → (r : Result (List ℕ) ValueFault)
-      → S (over_targets w stmt strength filter walk r).stop
-      ↔ ((db : Database) × (request : Request) × AsksOverTargets w stmt strength filter walk (at_places (seen_by walk.db w) r) db request × C w.t.tx w.around.sessions db request)
-  over_all w stmt strength filter walk h (Err fault) = neither (tells.other (OfValue fault) (λ e. cc)) (λ c. err_seen fault c.2.0 c.2.1)
-  over_all w stmt strength filter walk h (Ok places) =
+  pub over_all : (w : Work) (stmt : StmtTree) (walk : Walk) → walk.stop ≡ None → (r : Result (List ℕ) ValueFault)
+      → S (over_targets w stmt walk r).stop
+      ↔ ((db : Database) × (request : Request) × AsksOverTargets w stmt walk (at_places (seen_by walk.db w) r) db request × C w.t.tx w.around.sessions db request)
+  over_all w stmt walk h (Err fault) = neither (tells.other (OfValue fault) (λ e. cc)) (λ c. err_seen fault c.2.0 c.2.1)
+  over_all w stmt walk h (Ok places) =
       let seen = filter_map (slice_get (seen_by walk.db w)) places in
-      let on = walks (visit_target w stmt strength filter) (drop walk.place seen) walk h in (
+      let on = walks (visit_target w stmt) (drop walk.place seen) walk h in (
         λ s.
             let c = on.0 s in
-            let v = (visits w stmt strength filter c.0 c.1).0 c.3 in
+            let v = (visits w stmt c.0 c.1).0 c.3 in
             (v.0, v.1, (seen, refl, c.0, c.1, c.2, v.2), v.3),
         λ c.
             let k = c.2 in
             on.1 (
               k.2,
               k.3,
-              subst (λ (xs : List Seen). ComesTo (visit_target w stmt strength filter) walk (drop walk.place xs) k.2 k.3) (sym (same_seen seen k.0 k.1)) k.4,
-              (visits w stmt strength filter k.2 k.3).1 (c.0, c.1, k.5, c.3),
+              subst (λ (xs : List Seen). ComesTo (visit_target w stmt) walk (drop walk.place xs) k.2 k.3) (sym (same_seen seen k.0 k.1)) k.4,
+              (visits w stmt k.2 k.3).1 (c.0, c.1, k.5, c.3),
             ),
       )
 

@@ -1,13 +1,12 @@
 -- `deadlock detected` and waits, as replies.
-use Rattle.std.proofs.Common.{◌≡◌, ◌≢◌, ◌↔◌, refl, sym, ◌∙◌, ap, false, List, [], ◌∷◌, ◌++◌}
+use Rattle.std.proofs.Common.{◌≡◌, ◌≢◌, ◌↔◌, refl, sym, ◌∙◌, ap, false, ℕ, List, [], ◌∷◌, ◌++◌}
 use Rattle.std.specs.Prelude.{Option, Some, Ok}
 use Rattle.row_versions.specs.declared.names.TxId.{TxId}
-use Rattle.row_versions.specs.declared.write.Seen.{Seen}
 use Rattle.row_versions.specs.Members.{is_none_of}
-use Rattle.row_locks.specs.declared.held.Strength.{Strength}
 use Rattle.row_locks.specs.Cycles.{blocks, Closes}
-use Rattle.update_recheck.specs.Outcome.Outcome.{Takes, Skips, Waits as WaitsThere, Deadlocks, Serializes, Faults}
+use Rattle.update_recheck.specs.Outcome.Outcome.{Takes, Skips, Waits as WaitsThere, Deadlocks, NotFree, Serializes, Faults}
 use Rattle.update_recheck.specs.Outcome.{Outcome as TargetOutcome}
+use Rattle.update_recheck.specs.Asked.{Asked}
 use Rattle.session_machine.specs.declared.session.Request.{Request}
 use Rattle.session_machine.specs.declared.session.Request.TheVariants.{Row, Key}
 use Rattle.session_machine.specs.declared.session.Session.{Session}
@@ -22,7 +21,7 @@ use Rattle.session_machine.specs.Waits.{blockers, waits_in}
 use Rattle.session_machine.specs.Walks.{Stop, Blocked, Fails}
 use Rattle.session_machine.specs.Targets.{asked_key}
 use Rattle.session_machine.specs.Machine.{Machine, Blocks, Next, next, opening, Run}
-use Rattle.wait_laws.specs.Replies.{DeadlockIsAnswered, IsAnsweredSo, target_asked}
+use Rattle.wait_laws.specs.Replies.{DeadlockIsAnswered, IsAnsweredSo}
 use Rattle.wait_laws.proofs.Deadlocks.{deadlock_is_exact}
 use Rattle.wait_laws.proofs.KeyStops.{key_is_exact, waits_for_it}
 use Rattle.wait_laws.proofs.Stops.{Tells, none_some, outcome_at, stop_of}
@@ -33,21 +32,21 @@ use Rattle.wait_laws.proofs.Answering.{Shows, events}
 abbrev Closing : TxId → List Session → Database → Request → Type 0
 Closing tx ss db r = Closes (blocks (waits_in db ss)) tx (blockers db r tx)
 
-stops_deadlocked : (o : TargetOutcome) (seen : Seen) (strength : Strength) → (stop_of o seen strength ≡ Some (Fails Deadlock)) ↔ (o ≡ Deadlocks)
-stops_deadlocked (Takes version) seen strength = (λ h. cc, λ h. cc)
-stops_deadlocked Skips seen strength = (λ h. cc, λ h. cc)
-stops_deadlocked WaitsThere seen strength = (λ h. cc, λ h. cc)
-stops_deadlocked Deadlocks seen strength = (λ h. refl, λ h. refl)
-stops_deadlocked Serializes seen strength = (λ h. cc, λ h. cc)
-stops_deadlocked (Faults fault) seen strength = (λ h. cc, λ h. cc)
+stops_deadlocked : (name : List ℕ) (ask : Asked) (o : TargetOutcome) → (stop_of name ask o ≡ Some (Fails Deadlock)) ↔ (o ≡ Deadlocks)
+stops_deadlocked name ask (Takes version) = (λ h. cc, λ h. cc)
+stops_deadlocked name ask Skips = (λ h. cc, λ h. cc)
+stops_deadlocked name ask WaitsThere = (λ h. cc, λ h. cc)
+stops_deadlocked name ask Deadlocks = (λ h. refl, λ h. refl)
+stops_deadlocked name ask NotFree = (λ h. cc, λ h. cc)
+stops_deadlocked name ask Serializes = (λ h. cc, λ h. cc)
+stops_deadlocked name ask (Faults fault) = (λ h. cc, λ h. cc)
 
 tells_deadlocks : Tells (λ o. o ≡ Some (Fails Deadlock)) Closing
 tells_deadlocks = record {
   none = none_some (Fails Deadlock);
   other = λ fault ne h. ne (its fault h);
-  row = λ db w strength filter seen.
-      let ask = target_asked db w strength filter seen in
-      let stops = stops_deadlocked (outcome_at db w ask) seen strength in
+  row = λ db w name ask.
+      let stops = stops_deadlocked name ask (outcome_at db w ask) in
       let exact = (deadlock_is_exact db.content db.held (waits_in db w.around.sessions) ask).deadlocks in
       (λ h. exact.0 (stops.0 h), λ h. stops.1 (exact.1 h));
   key = λ db w name values except key. (key_is_exact db w name values except key).deadlocks;
@@ -78,13 +77,14 @@ Waiting_for tx ss db r = (blockers db r tx ≢ []) × ¬ Closes (blocks (waits_i
 abbrev Blocks_it : Option Stop → Type 0
 Blocks_it o = (r : Request) × (o ≡ Some (Blocked r))
 
-stops_waiting : (o : TargetOutcome) (seen : Seen) (strength : Strength) → Blocks_it (stop_of o seen strength) ↔ (o ≡ WaitsThere)
-stops_waiting (Takes version) seen strength = (λ h. let k = h.1 in cc, λ h. cc)
-stops_waiting Skips seen strength = (λ h. let k = h.1 in cc, λ h. cc)
-stops_waiting WaitsThere seen strength = (λ h. refl, λ h. (Row seen.row strength, refl))
-stops_waiting Deadlocks seen strength = (λ h. let k = h.1 in cc, λ h. cc)
-stops_waiting Serializes seen strength = (λ h. let k = h.1 in cc, λ h. cc)
-stops_waiting (Faults fault) seen strength = (λ h. let k = h.1 in cc, λ h. cc)
+stops_waiting : (name : List ℕ) (ask : Asked) (o : TargetOutcome) → Blocks_it (stop_of name ask o) ↔ (o ≡ WaitsThere)
+stops_waiting name ask (Takes version) = (λ h. let k = h.1 in cc, λ h. cc)
+stops_waiting name ask Skips = (λ h. let k = h.1 in cc, λ h. cc)
+stops_waiting name ask WaitsThere = (λ h. refl, λ h. (Row ask.seen.row ask.strength, refl))
+stops_waiting name ask Deadlocks = (λ h. let k = h.1 in cc, λ h. cc)
+stops_waiting name ask NotFree = (λ h. let k = h.1 in cc, λ h. cc)
+stops_waiting name ask Serializes = (λ h. let k = h.1 in cc, λ h. cc)
+stops_waiting name ask (Faults fault) = (λ h. let k = h.1 in cc, λ h. cc)
 
 -- some are in a list
 some_in : (bs : List TxId) → (is_none_of bs ≡ false) ↔ (bs ≢ [])
@@ -95,12 +95,11 @@ tells_waits : Tells Blocks_it Waiting_for
 tells_waits = record {
   none = λ h. none_some (Blocked h.0) h.1;
   other = λ fault ne h. let k = h.1 in cc;
-  row = λ db w strength filter seen.
-      let ask = target_asked db w strength filter seen in
-      let stops = stops_waiting (outcome_at db w ask) seen strength in
+  row = λ db w name ask.
+      let stops = stops_waiting name ask (outcome_at db w ask) in
       let exact = (deadlock_is_exact db.content db.held (waits_in db w.around.sessions) ask).waits_else in
-      let some = some_in (blockers db (Row seen.row strength) w.t.tx) in
-      (λ h. let c = exact.0 (stops.0 h) in (c.0, (some.0 c.1, c.2)), λ h. stops.1 (exact.1 (h.0, some.1 h.1.0, h.1.1)));
+      let some = some_in (blockers db (Row ask.seen.row ask.strength) ask.tx) in
+      (λ h. let c = exact.0 (stops.0 h) in (c.0, c.1, (some.0 c.2, c.3)), λ h. stops.1 (exact.1 (h.0, h.1, some.1 h.2.0, h.2.1)));
   key = λ db w name values except key.
       let exact = (key_is_exact db w name values except key).waits_else in
       (λ h. exact.0 (h.1 ∙ ap (λ (r : Request). Some (Blocked r)) (sym (waits_for_it db w name values except key h.0 h.1))), λ h. (Key (asked_key w values key), exact.1 h));

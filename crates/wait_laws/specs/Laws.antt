@@ -130,7 +130,8 @@ lets_write NoKeyUpdate (Some values) = true
 lets_write strength values = false
 
 -- a row that an open transaction wrote at this place of the log is held by it: so strongly that it may write it, and at Update where it inserted the row, which is
--- named by the place of its first version. Each request of another that conflicts with that is blocked: each one but those at KeyShare, so that nobody else writes the row (13.3.2)
+-- named by the place of its first version. Each request of another that conflicts with that is blocked, at NoKeyUpdate each one but those at KeyShare, and at Update
+-- each one at all, so that nobody else writes the row (13.3.2)
 pub record IsHeldToWrite (db : Database) (place : ℕ) (w : Write) : Type 0 where
   pub strength : Strength
   pub held : IsTrue (holds db.held (lock_of_write strength w))

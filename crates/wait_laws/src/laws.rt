@@ -7,7 +7,8 @@ pub fn no_cycle_of_waits()
     ensures { NoCycleOfWaits }
 {}
 
-/// A target is answered as a deadlock exactly where a wait for its blockers would close a cycle, and as a wait exactly where it has blockers and closes none.
+/// A target of a statement that waits for others is answered as a deadlock exactly where a wait for its blockers would close a cycle, and as a wait exactly where it has blockers and closes none;
+/// with NOWAIT and SKIP LOCKED it is neither.
 pub fn deadlock_is_exact()
     ensures { DeadlockIsExact }
 {}
@@ -23,7 +24,7 @@ pub fn deadlock_is_answered()
     ensures { DeadlockIsAnswered }
 {}
 
-/// A row that an open transaction wrote is held by it alone.
+/// A row that an open transaction wrote is held by it, so that nobody else writes it.
 pub fn writes_are_held()
     ensures { WritesAreHeld }
 {}
