@@ -13,7 +13,7 @@ ghost use Rattle.sql_expressions.specs.Inner.Pieces.{found, Found_op, Found_list
 
 use crate::cursor::{Parser, Tokens, after_comma};
 use crate::level::{Chain, Membership, Opened, Prefix};
-use crate::operator::{comparison, is_call, prefix, truth_of};
+use crate::operator::{comparison, is_call, is_not, prefix, truth_of};
 use crate::parsed::Parsed;
 use iso_lexer::{At, SqlSign};
 use sql_trees::{Expr, Operator, SqlFault, Tok, Truth, Word};
@@ -380,13 +380,7 @@ impl Parser {
         ensures { Gives (λ x. found x.0 x.1.now) result (is_tail self.text_len (tree_of operand.entry.value) depth (tok_views tokens.now)) }
     {
         match tokens {
-            [
-                At {
-                    tok: Tok::Word(Word::Not, _),
-                    ..
-                },
-                rest @ ..,
-            ] => self.is_test(true, operand, depth, rest),
+            [token, rest @ ..] if is_not(token.tok) => self.is_test(true, operand, depth, rest),
             _ => self.is_test(false, operand, depth, tokens),
         }
     }

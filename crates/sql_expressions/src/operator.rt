@@ -4,7 +4,7 @@ ghost use Rattle.std.specs.Prelude.{◌≡◌, option_map};
 ghost use Rattle.sql_trees.specs.Tokens.{tok_view, tok_views};
 ghost use Rattle.sql_expressions.specs.Readers.{left_out};
 ghost use Rattle.sql_expressions.specs.Reading.{is_call, truth_of, operators, comparison_op};
-ghost use Rattle.sql_expressions.specs.Inner.Pieces.{prefix_at, prefix_of};
+ghost use Rattle.sql_expressions.specs.Inner.Pieces.{is_not, prefix_at, prefix_of};
 
 use crate::cursor::Tokens;
 use crate::level::{Chain, Prefix};
@@ -30,6 +30,13 @@ pub fn is_call(tok: Tok) -> bool
         Tok::Word(word, _) => word.is_aggregate(),
         _ => false,
     }
+}
+
+/// Whether the token is the word `NOT`.
+pub fn is_not(tok: Tok) -> bool
+    ensures { result ≡ is_not (tok_view tok.entry) }
+{
+    matches!(tok, Tok::Word(Word::Not, _))
 }
 
 /// What an `IS` before the token asks for.
