@@ -56,10 +56,17 @@ meant (stmt.Value e (Some alias) ∷ is) (tree.Column name) = if bytes_eq name a
 meant (i ∷ is) key = meant is key
 meant [] key = key
 
--- the expressions of a SELECT, as they are looked at: of its items, where `*` and count(*) have none, then WHERE, then what its keys mean
+-- the expressions of items; `*` and count(*) have none
+abbrev pub items_exprs : List ItemTree → List Tree
+items_exprs items = flat_map (λ i. elim i [ stmt.Value e alias ↦ e ∷ [] | stmt.Aggregate (tree.Of k e) alias ↦ e ∷ [] | other ↦ [] ]) items
+
+-- the expressions of RETURNING, if there is one
+abbrev pub returned_exprs : Option (List ItemTree) → List Tree
+returned_exprs items = option_map_or items_exprs items []
+
+-- the expressions of a SELECT, as they are looked at: of its items, then WHERE, then what its keys mean
 abbrev pub select_exprs : SelectTree → List Tree
-select_exprs s = flat_map (λ i. elim i [ stmt.Value e alias ↦ e ∷ [] | stmt.Aggregate (tree.Of k e) alias ↦ e ∷ [] | other ↦ [] ]) s.items
-    ++ option_to_list s.filter ++ map (λ k. meant s.items k.expr) s.order
+select_exprs s = items_exprs s.items ++ option_to_list s.filter ++ map (λ k. meant s.items k.expr) s.order
 
 -- the places of the rows that pass WHERE, once it is tested at all of them
 abbrev pub passing : Cols → Option Tree → List (List Value) → Result (List ℕ) ValueFault

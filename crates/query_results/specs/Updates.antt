@@ -3,17 +3,21 @@ use Rattle.std.specs.Prelude.{ℕ, ◌==◌, Bool, true, false, List, ◌++◌, 
 use Rattle.std.specs.List.{list_all, list_any}
 use Rattle.std.specs.Ordering.{is_eq, is_some_and}
 use Rattle.sql_trees.specs.Trees.{Tree}
-use Rattle.sql_trees.specs.Statements.{ColumnTree, SetTree, UpdateTree}
+use Rattle.sql_trees.specs.Statements.{ColumnTree, DeleteTree, SetTree, UpdateTree}
 use Rattle.sql_values.specs.declared.value.Value.{Value}
 use Rattle.sql_values.specs.declared.value.Value.TheVariants.{Null}
 use Rattle.sql_values.specs.declared.fault.ValueFault.{ValueFault}
 use Rattle.sql_values.specs.Values.{assign, compare, if_ok, each}
 use Rattle.sql_values.specs.Expressions.{Cols, value}
-use Rattle.query_results.specs.Queries.{AssignedColumn, columns_assigned, filled}
+use Rattle.query_results.specs.Queries.{AssignedColumn, columns_assigned, filled, returned_exprs}
 
--- the expressions of an UPDATE, as they are looked at: its new values, then WHERE; what it assigns to is looked at before
+-- the expressions of an UPDATE, as they are looked at: its new values, then WHERE, then those of RETURNING; what it assigns to is looked at before
 abbrev pub update_exprs : UpdateTree → List Tree
-update_exprs u = map (λ s. s.value) u.sets ++ option_to_list u.filter
+update_exprs u = map (λ s. s.value) u.sets ++ option_to_list u.filter ++ returned_exprs u.returning
+
+-- the expressions of a DELETE: WHERE, then those of RETURNING
+abbrev pub delete_exprs : DeleteTree → List Tree
+delete_exprs d = option_to_list d.filter ++ returned_exprs d.returning
 
 -- the columns that are assigned to, or the first name that is none
 abbrev pub columns_set : List ColumnTree → List SetTree → Result (List AssignedColumn) (List ℕ)

@@ -1,7 +1,7 @@
 -- What statements do to the state, and that what is so after each effect is so after each statement.
 use Rattle.std.proofs.Common.{◌≡◌, ℕ, zero, suc, arith, ◌<◌, Bool, true, false, List, [], ◌∷◌, length, drop, refl, sym, subst}
 use Rattle.std.specs.List.{list_any}
-use Rattle.std.specs.Prelude.{ℤ, flat_map, nat_lt, option_to_list, Option, Some, None, is_some, unwrap_or, slice_get, Result, Ok, Err, ◌&&◌, not, if◌then◌else◌}
+use Rattle.std.specs.Prelude.{ℤ, flat_map, nat_lt, Option, Some, None, is_some, unwrap_or, slice_get, Result, Ok, Err, ◌&&◌, not, if◌then◌else◌}
 use Rattle.std.proofs.lemmas.Option.{slice_get_within}
 use Rattle.sql_trees.specs.declared.stmt.Level.{Level}
 use Rattle.sql_trees.specs.declared.stmt.Level.TheVariants.{ReadCommitted}
@@ -12,8 +12,8 @@ use Rattle.sql_values.specs.declared.fault.ValueFault.{ValueFault}
 use Rattle.sql_values.specs.declared.fault.ValueFault.TheVariants.{NoColumn}
 use Rattle.query_results.specs.Results.{Results}
 use Rattle.row_versions.specs.declared.write.View.{View}
-use Rattle.query_results.specs.Queries.{AssignedColumn, cols_of, result_of, select_exprs, columns_assigned, titles_of, undefined_among, wrong_position}
-use Rattle.query_results.specs.Updates.{columns_set, update_exprs}
+use Rattle.query_results.specs.Queries.{AssignedColumn, cols_of, result_of, returned_exprs, select_exprs, columns_assigned, undefined_among, wrong_position}
+use Rattle.query_results.specs.Updates.{columns_set, delete_exprs, update_exprs}
 use Rattle.session_machine.specs.declared.session.OpenTransaction.{OpenTransaction}
 use Rattle.session_machine.specs.declared.session.Transaction.{Transaction}
 use Rattle.session_machine.specs.declared.session.Transaction.TheVariants.{Closed, Open, Aborted}
@@ -30,7 +30,7 @@ use Rattle.session_machine.specs.Statements.{Surroundings, Effect, fails, answer
 use Rattle.session_machine.specs.Walks.{Stop, Walk, Blocked, Fails}
 use Rattle.session_machine.specs.Rows.{Work, columns_in}
 use Rattle.session_machine.specs.Running.{run_stmt}
-use Rattle.session_machine.specs.Inner.Statements.{run_piecewise, run_aborted, is_end, walked_from, insert_one, update_one, delete_one, lock_one, beginning, pauses, comes_to, after_walk, done, assigned_to, insert_from, insert, update_from, update, delete_from, delete, lock_from, answered, select_rows, unless_wrong, select, run_open, run_closed, run_on, begun, is_level, begin_in, walked, create}
+use Rattle.session_machine.specs.Inner.Statements.{run_piecewise, run_aborted, is_end, walked_from, insert_one, update_one, delete_one, lock_one, beginning, pauses, comes_to, after_walk, answer, put_insert, assigned_to, insert_from, insert, update_from, update, delete_from, delete, lock_from, answered, select_rows, unless_wrong, select, run_open, run_closed, run_on, begun, is_level, begin_in, walked, create}
 use Rattle.session_machine.specs.Targets.{passing_targets, taken_targets}
 use Rattle.session_machine.specs.Inner.Pieces.{drop_ended, insert_fitting, insert_to, update_fitting, update_to, delete_fitting, select_found, lock_again, table_columns, with_table, with_drop, DroppedUpTo, dropped_at, dropped}
 use Rattle.session_machine.proofs.Piecewise.{drops_by}
@@ -140,38 +140,40 @@ module _ (may : Bool) (db : Database) (t : OpenTransaction) (around : Surroundin
   inserts_from k view table at i place rows =
       let w = work k view in
       let targets = assigned_to (columns_assigned (columns_in db w) i.columns) in
-      ends k view table done (walked (insert_one w i.table targets) db place rows (drop place i.rows))
-      (works_inserts db.content w table P eff.lasts i.table targets (drop place i.rows) db place rows (starts k table at))
+      ends k view table (answer (columns_in db w) i.returning) (walked (insert_one w (put_insert i) targets) db place rows (drop place i.rows))
+      (works_inserts db.content w table P eff.lasts (put_insert i) targets (drop place i.rows) db place rows (starts k table at))
 
   updates_from : (k : ℕ) (view : View) (table : Table) → At k table → (u : UpdateTree) (place : ℕ) (rows : List (List Value)) → M (update_from db (work k view) u place rows)
   updates_from k view table at u place rows =
       let w = work k view in
       let targets = assigned_to (columns_set (columns_in db w) u.sets) in
-      ends k view table done (walked_from (update_one w u targets) db place rows (passing_targets db w u.filter))
+      ends k view table (answer (columns_in db w) u.returning) (walked_from (update_one w u targets) db place rows (passing_targets db w u.filter))
       (works_updates db.content w table P eff.lasts u targets (passing_targets db w u.filter) (passing_of db w u.filter eff.firm.stay) db place rows (starts k table at))
 
   deletes_from : (k : ℕ) (view : View) (table : Table) → At k table → (d : DeleteTree) (place : ℕ) (rows : List (List Value)) → M (delete_from db (work k view) d place rows)
   deletes_from k view table at d place rows =
       let w = work k view in
-      ends k view table done (walked_from (delete_one w d) db place rows (passing_targets db w d.filter))
+      ends k view table (answer (columns_in db w) d.returning) (walked_from (delete_one w d) db place rows (passing_targets db w d.filter))
       (works_deletes db.content w table P eff.lasts d (passing_targets db w d.filter) (passing_of db w d.filter eff.firm.stay) db place rows (starts k table at))
 
   locks_from : (k : ℕ) (view : View) (table : Table) → At k table → (s : SelectTree) (l : Lock) (place : ℕ) (rows : List (List Value)) → M (lock_from db (work k view) s l place rows)
   locks_from k view table at s l place rows =
       let w = work k view in
-      ends k view table (λ shown. Rows (record { titles = titles_of (columns_in db w) s.items; rows = shown })) (walked_from (lock_one w s l) db place rows (taken_targets db w s))
+      ends k view table (answer (columns_in db w) (Some s.items)) (walked_from (lock_one w s l) db place rows (taken_targets db w s))
       (works_locks db.content w table P eff.lasts s l (taken_targets db w s) (taken_of db w s eff.firm.stay) db place rows (starts k table at))
 
   -- INSERT
-  inserts_fitting : (k : ℕ) (table : Table) → At k table → (i : InsertTree) (targets : List AssignedColumn) (o : Option (List ℕ)) → M (insert_fitting db (beginning db t around k) i targets o)
-  inserts_fitting k table at i targets (Some name) = failed_here (OfValue (NoColumn name))
-  inserts_fitting k table at i targets None =
+  inserts_fitting : (k : ℕ) (table : Table) → At k table → (i : InsertTree) (targets : List AssignedColumn) (in_values in_returning : Option (List ℕ))
+      → M (insert_fitting db (beginning db t around k) i targets in_values in_returning)
+  inserts_fitting k table at i targets (Some name) in_returning = failed_here (OfValue (NoColumn name))
+  inserts_fitting k table at i targets None (Some name) = failed_here (OfValue (NoColumn name))
+  inserts_fitting k table at i targets None None =
       either (list_any (λ row. nat_lt (length targets) (length row)) i.rows) (fails db t TooManyValues) (insert_from db (beginning db t around k) i 0 []) (failed_here TooManyValues)
       (inserts_from k (view_of db.content t) table at i 0 [])
 
   inserts_to : (k : ℕ) (table : Table) → At k table → (i : InsertTree) (r : Result (List AssignedColumn) (List ℕ)) → M (insert_to db (beginning db t around k) i r)
   inserts_to k table at i (Err column) = failed_here (NoColumnOf column i.table)
-  inserts_to k table at i (Ok targets) = inserts_fitting k table at i targets (undefined_among [] (flat_map (λ row. row) i.rows))
+  inserts_to k table at i (Ok targets) = inserts_fitting k table at i targets (undefined_among [] (flat_map (λ row. row) i.rows)) (undefined_among (cols_of (columns_in db (beginning db t around k))) (returned_exprs i.returning))
 
   inserts : (i : InsertTree) (o : Option ℕ) → find_table db (Some t.tx) i.table ≡ o → M (insert db t around i o)
   inserts i None e = failed_here (NoTable i.table)
@@ -198,7 +200,7 @@ module _ (may : Bool) (db : Database) (t : OpenTransaction) (around : Surroundin
   deletes : (d : DeleteTree) (o : Option ℕ) → find_table db (Some t.tx) d.table ≡ o → M (delete db t around d o)
   deletes d None e = failed_here (NoTable d.table)
   deletes d (Some k) e =
-      let at = find_table_within db (Some t.tx) d.table k e in deletes_fitting k at.0 at.1 d (undefined_among (cols_of (table_columns db.catalog k)) (option_to_list d.filter))
+      let at = find_table_within db (Some t.tx) d.table k e in deletes_fitting k at.0 at.1 d (undefined_among (cols_of (table_columns db.catalog k)) (delete_exprs d))
 
   -- SELECT
   answers_set : (r : Result Results ValueFault) → M (answered db t r)

@@ -7,7 +7,7 @@ use Rattle.sql_trees.specs.declared.stmt.Lock.{Lock}
 use Rattle.sql_trees.specs.declared.stmt.Strength.TheVariants.{Update}
 use Rattle.sql_trees.specs.declared.stmt.Policy.TheVariants.{Wait}
 use Rattle.sql_trees.specs.Trees.{Tree}
-use Rattle.sql_trees.specs.Statements.{CreateTree, UpdateTree, DeleteTree, SelectTree}
+use Rattle.sql_trees.specs.Statements.{CreateTree, ItemTree, UpdateTree, DeleteTree, SelectTree}
 use Rattle.sql_values.specs.declared.value.Value.{Value}
 use Rattle.sql_values.specs.declared.fault.ValueFault.{ValueFault}
 use Rattle.query_results.specs.Queries.{AssignedColumn, new_values, null_in, row_values}
@@ -31,10 +31,10 @@ use Rattle.session_machine.specs.declared.session.OpenTransaction.{OpenTransacti
 use Rattle.session_machine.specs.Tables.{Database, Table}
 use Rattle.session_machine.specs.Waits.{waits_in}
 use Rattle.session_machine.specs.Walks.{Stop}
-use Rattle.session_machine.specs.Rows.{Work, columns_in, cols_in, written, inserted, values_of, update_strength}
-use Rattle.session_machine.specs.Inner.Statements.{walked_from, keys_in, stop_at_keys, insert_one, ask, settled, at_outcome, at_target, update_with, update_one, delete_with, delete_one, lock_with, lock_one, Visit, walked}
+use Rattle.session_machine.specs.Rows.{Work, Meets, Stops, PassesOver, Putting, columns_in, cols_in, written, inserted, values_of, update_strength}
+use Rattle.session_machine.specs.Inner.Statements.{walked_from, keys_in, meet_keys, shows, put_update, insert_one, ask, settled, at_outcome, at_target, update_with, update_one, delete_with, delete_one, lock_with, lock_one, Visit, walked}
 use Rattle.session_machine.specs.Targets.{seen_by, at_places, passing_targets, taken_targets}
-use Rattle.session_machine.specs.Inner.Pieces.{unless_stopped, unless_stopped_by, unless_null, insert_made, update_made, lock_made, with_table, with_drop}
+use Rattle.session_machine.specs.Inner.Pieces.{unless_stopped, unless_met, unless_null, insert_made, update_made, shown_made, with_table, with_drop}
 use Rattle.session_machine.specs.Sound.{RowsFit, RowsStay}
 use Rattle.session_laws.proofs.Lists.{slice_get-append_left}
 use Rattle.session_laws.proofs.Fitting.{IsRowOf, fits_at, its_values, fit_written, stay_written, columns_are}
@@ -138,14 +138,23 @@ module _ (start : Content) (w : Work) (table : Table) (P : Database → Type 0) 
         holds = lasts.write db w.table row values h.holds;
       }
 
-  -- a row that is about to be written: its NULLs and its keys are checked
-  works_checked : (name : List ℕ) (db after : Database) (stop : Option Stop) (null : Option (List ℕ)) → W db → W after → W (unless_null name db (unless_stopped_by db after stop) null).db
-  works_checked name db after stop (Some column) h k = h
-  works_checked name db after (Some stop) None h k = h
-  works_checked name db after None None h k = k
+  -- what is answered for a row leaves the database as it is
+  works_shown : (items : Option (List ItemTree)) (db : Database) (row : List Value) → W db → W (shows w items db row).db
+  works_shown None db row h = h
+  works_shown (Some items) db row h = at_row (row_values (cols_in db w) items row) where
+    at_row : (r : Result (List Value) ValueFault) → W (shown_made db r).db
+    at_row (Err fault) = h
+    at_row (Ok shown) = h
 
-  works_insert : (name : List ℕ) (targets : List AssignedColumn) (db : Database) (row : List Tree) → W db → W (insert_one w name targets db row).db
-  works_insert name targets db row h = at_values (new_values (length (columns_in db w)) targets row) refl where
+  -- a row that is about to be written: its NULLs and its keys are checked
+  works_checked : (name : List ℕ) (db : Database) (due : Visit) (met : Option Meets) (null : Option (List ℕ)) → W db → W due.db → W (unless_null name db (unless_met db due met) null).db
+  works_checked name db due met (Some column) h k = h
+  works_checked name db due (Some (Stops stop)) None h k = h
+  works_checked name db due (Some PassesOver) None h k = h
+  works_checked name db due None None h k = k
+
+  works_insert : (put : Putting) (targets : List AssignedColumn) (db : Database) (row : List Tree) → W db → W (insert_one w put targets db row).db
+  works_insert put targets db row h = at_values (new_values (length (columns_in db w)) targets row) refl where
     long : (values : List Value) → new_values (length (columns_in db w)) targets row ≡ Ok values → length values ≡ length table.made.columns
     long values e = length-new_values (length (columns_in db w)) targets row values e ∙ ap length (columns_are db.catalog w.table table h.there)
 
@@ -155,10 +164,12 @@ module _ (start : Content) (w : Work) (table : Table) (P : Database → Type 0) 
         works_lock (written db w (new_row db.content) (Some values)) _
         (works_write db (new_row db.content) (Some values) h (new, get-append_last db.content.log new, refl) (λ vs e. ap length (sym (same_Some values vs e)) ∙ l))
 
-    at_values : (r : Result (List Value) ValueFault) → new_values (length (columns_in db w)) targets row ≡ r → W (insert_made w name db r).db
+    at_values : (r : Result (List Value) ValueFault) → new_values (length (columns_in db w)) targets row ≡ r → W (insert_made w put db r).db
     at_values (Err fault) e = h
     at_values (Ok values) e =
-        works_checked name db (inserted db w values) (stop_at_keys db w name values None (keys_in db w)) (null_in (columns_in db w) values) h (writes values (long values e))
+        let after = inserted db w values in
+        works_checked put.table db (shows w put.returning after values) (meet_keys db w put values None (keys_in db w)) (null_in (columns_in db w) values) h
+        (works_shown put.returning after values (writes values (long values e)))
 
   -- a row that is of the table, with a version that has a value for each column
   abbrev Acts : (Database → Seen → Visit) → Type 0
@@ -200,28 +211,26 @@ module _ (start : Content) (w : Work) (table : Table) (P : Database → Type 0) 
     writes : (values : List Value) → length values ≡ length table.made.columns → W (written db w s.row (Some values))
     writes values l = works_write db s.row (Some values) h (still_of db _ s.row.0 of) (λ vs e. ap length (sym (same_Some values vs e)) ∙ l)
 
-    at_values : (r : Result (List Value) ValueFault) → updated (cols_in db w) targets u.sets (values_of db s) ≡ r → W (update_made w u.table db s.row r).db
+    at_values : (r : Result (List Value) ValueFault) → updated (cols_in db w) targets u.sets (values_of db s) ≡ r → W (update_made w (put_update u) db s.row r).db
     at_values (Err fault) e = h
     at_values (Ok values) e =
-        works_checked u.table db (written db w s.row (Some values)) (stop_at_keys db w u.table values (Some s.row) (keys_in db w)) (null_in (columns_in db w) values) h
-        (writes values (length-updated (cols_in db w) targets u.sets (values_of db s) values e ∙ long))
+        let after = written db w s.row (Some values) in
+        works_checked u.table db (shows w u.returning after values) (meet_keys db w (put_update u) values (Some s.row) (keys_in db w)) (null_in (columns_in db w) values) h
+        (works_shown u.returning after values (writes values (length-updated (cols_in db w) targets u.sets (values_of db s) values e ∙ long)))
 
   none_given : (vs : List Value) → (let o : Option (List Value) = None in o ≡ Some vs) → length vs ≡ length table.made.columns
   none_given vs e = cc
 
-  acts_delete : Acts (delete_with w)
-  acts_delete db s h of long = works_write db s.row None h (still_of db _ s.row.0 of) none_given
+  acts_delete : (d : DeleteTree) → Acts (delete_with w d)
+  acts_delete d db s h of long = works_shown d.returning (written db w s.row None) (values_of db s) (works_write db s.row None h (still_of db _ s.row.0 of) none_given)
 
   acts_lock : (q : SelectTree) → Acts (lock_with w q)
-  acts_lock q db s h of long = at_row (row_values (cols_in db w) q.items (values_of db s)) where
-    at_row : (r : Result (List Value) ValueFault) → W (lock_made db r).db
-    at_row (Err fault) = h
-    at_row (Ok row) = h
+  acts_lock q db s h of long = works_shown (Some q.items) db (values_of db s) h
 
-  pub works_inserts : (name : List ℕ) (targets : List AssignedColumn) (given : List (List Tree)) (db : Database) (place : ℕ) (rows : List (List Value)) → W db
-      → W (walked (insert_one w name targets) db place rows given).db
-  works_inserts name targets given db place rows h =
-      walked_keeps W (λ row. Unit {0}) (insert_one w name targets) (λ d row of k. works_insert name targets d row k) given (any given) db place rows h where
+  pub works_inserts : (put : Putting) (targets : List AssignedColumn) (given : List (List Tree)) (db : Database) (place : ℕ) (rows : List (List Value)) → W db
+      → W (walked (insert_one w put targets) db place rows given).db
+  works_inserts put targets given db place rows h =
+      walked_keeps W (λ row. Unit {0}) (insert_one w put targets) (λ d row of k. works_insert put targets d row k) given (any given) db place rows h where
         any : (xs : List (List Tree)) → Each (λ row. Unit {0}) xs
         any [] = tt
         any (x ∷ xs) = (tt, any xs)
@@ -234,7 +243,7 @@ module _ (start : Content) (w : Work) (table : Table) (P : Database → Type 0) 
   pub works_deletes : (q : DeleteTree) (r : Result (List Seen) ValueFault) → EachOk (SeenOf start w.table) r → (db : Database) (place : ℕ) (rows : List (List Value)) → W db
       → W (walked_from (delete_one w q) db place rows r).db
   works_deletes q r of db place rows h =
-      walked_from_keeps W (SeenOf start w.table) (delete_one w q) (λ d s its k. works_target q.table (delete_with w) acts_delete d (ask d w Update Wait q.filter s) its k) r of db place rows h
+      walked_from_keeps W (SeenOf start w.table) (delete_one w q) (λ d s its k. works_target q.table (delete_with w q) (acts_delete q) d (ask d w Update Wait q.filter s) its k) r of db place rows h
 
   pub works_locks : (q : SelectTree) (l : Lock) (r : Result (List Seen) ValueFault) → EachOk (SeenOf start w.table) r → (db : Database) (place : ℕ) (rows : List (List Value)) → W db
       → W (walked_from (lock_one w q l) db place rows r).db

@@ -29,7 +29,7 @@ x = 120 ∷ []
 
 -- INSERT INTO t VALUES (n)
 abbrev insert_into_t : ℕ → StmtTree
-insert_into_t n = Inserts (record { table = t; columns = None; rows = (Number false n ∷ []) ∷ [] })
+insert_into_t n = Inserts (record { table = t; columns = None; rows = (Number false n ∷ []) ∷ []; do_nothing = false; returning = None })
 
 -- SELECT * FROM t
 abbrev select_from_t : StmtTree

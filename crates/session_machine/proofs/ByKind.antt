@@ -1,19 +1,19 @@
 -- A statement that is run does what its kind does.
 use Rattle.std.proofs.Common.{◌≡◌, refl, ap, ◌∙◌, Bool, true, false, ℕ, ◌+◌, List, [], ◌∷◌, ◌++◌, drop, length}
-use Rattle.std.specs.Prelude.{ℤ, Option, Some, None, option_map, unwrap_or, slice_get, filter_map, flat_map, nat_lt, option_to_list, Result, Ok, Err, if◌then◌else◌}
+use Rattle.std.specs.Prelude.{ℤ, Option, Some, None, option_map, unwrap_or, slice_get, filter_map, flat_map, nat_lt, Result, Ok, Err, if◌then◌else◌}
 use Rattle.std.specs.List.{cons_option, list_any}
 use Rattle.std.specs.Option.{option_map_or, option_or}
 use Rattle.sql_trees.specs.declared.stmt.Level.TheVariants.{ReadCommitted}
 use Rattle.sql_trees.specs.declared.stmt.Lock.{Lock}
 use Rattle.sql_trees.specs.Trees.{Tree}
-use Rattle.sql_trees.specs.Statements.{KeyTree, StmtTree, CreateTree, InsertTree, UpdateTree, DeleteTree, SelectTree}
+use Rattle.sql_trees.specs.Statements.{ItemTree, KeyTree, StmtTree, CreateTree, InsertTree, UpdateTree, DeleteTree, SelectTree}
 use Rattle.sql_trees.specs.Statements.{Begin, Commit, Rollback, SetTransaction, SetDeadlockTimeout, Create, DropTables, Inserts, Updates, Deletes, Selects}
 use Rattle.sql_values.specs.declared.value.Value.{Value}
 use Rattle.sql_values.specs.declared.fault.ValueFault.{ValueFault}
 use Rattle.sql_values.specs.declared.fault.ValueFault.TheVariants.{NoColumn}
-use Rattle.query_results.specs.Queries.{AssignedColumn, columns_assigned, new_values, null_in, passing, row_values, titles_of, result_of, select_exprs, taken, undefined_among, wrong_position}
+use Rattle.query_results.specs.Queries.{AssignedColumn, columns_assigned, new_values, null_in, passing, row_values, result_of, returned_exprs, select_exprs, taken, undefined_among, wrong_position}
 use Rattle.query_results.specs.Results.{Results}
-use Rattle.query_results.specs.Updates.{columns_set, update_exprs, updated}
+use Rattle.query_results.specs.Updates.{columns_set, delete_exprs, update_exprs, updated}
 use Rattle.row_versions.specs.declared.names.RowId.{RowId}
 use Rattle.row_versions.specs.declared.write.Seen.{Seen}
 use Rattle.sql_trees.specs.declared.stmt.Strength.TheVariants.{Update}
@@ -35,26 +35,26 @@ use Rattle.session_machine.specs.Statements.{Surroundings, Effect, answers, fail
 use Rattle.session_machine.specs.declared.reply.Outcome.TheVariants.{Done, Rows}
 use Rattle.session_machine.specs.declared.session.Request.TheVariants.{Row}
 use Rattle.session_machine.specs.Walks.{Walk, Blocked, Fails, passed, stopped, over, Stop}
-use Rattle.session_machine.specs.Rows.{Work, columns_in, cols_in, values_of, written, inserted, stop_at_key, put_row, insert_row, act_on, update_strength, visit_target, over_targets, walk_of}
+use Rattle.session_machine.specs.Rows.{Work, Meets, Stops, PassesOver, Putting, columns_in, cols_in, values_of, written, inserted, meet_key, meets, returned, put_row, insert_row, act_on, update_strength, visit_target, over_targets, walk_of}
 use Rattle.session_machine.specs.Running.{leads_to, at_once, begin_at, fault_in, run_in, run_stmt}
-use Rattle.session_machine.specs.Inner.Statements.{keys_in, stop_at_keys, checked, with_values, insert_one, ask, settled, at_outcome, update_with, update_one, delete_with, delete_one, lock_with, lock_one, walked_from, Visit, stops, goes_on, walked, begun}
-use Rattle.session_machine.specs.Inner.Statements.{create, beginning, after_walk, done, assigned_to, unless_undefined, unless_wrong, run_aborted, insert_from, insert, update_from, update, delete, lock_from, answered, select_rows, select, run_open, run_closed, run_on, run_piecewise}
+use Rattle.session_machine.specs.Inner.Statements.{keys_in, meet_keys, shows, at_key, put_insert, put_update, answer, checked, with_values, insert_one, ask, settled, at_outcome, update_with, update_one, delete_with, delete_one, lock_with, lock_one, walked_from, Visit, stops, goes_on, walked, begun}
+use Rattle.session_machine.specs.Inner.Statements.{create, beginning, after_walk, assigned_to, unless_undefined, unless_wrong, run_aborted, insert_from, insert, update_from, update, delete, lock_from, answered, select_rows, select, run_open, run_closed, run_on, run_piecewise}
 use Rattle.session_machine.specs.Targets.{seen_by, at_places, going_on}
 use Rattle.session_machine.specs.Inner.Pieces.{with_table, unless_stopped, insert_to, update_to, select_found}
 
 -- ---- at a row
 
--- the first key that stops a statement, by looking at one after the other
-stops_first : (db : Database) (w : Work) (name : List ℕ) (values : List Value) (except : Option RowId) (keys : List KeyTree)
-    → slice_get (filter_map (stop_at_key db w name values except) keys) 0 ≡ stop_at_keys db w name values except keys
-stops_first db w name values except [] = refl
-stops_first db w name values except (key ∷ keys) = by (stop_at_key db w name values except key) (stops_first db w name values except keys) where
-  others : List Stop
-  others = filter_map (stop_at_key db w name values except) keys
+-- the first key that isn't free, by looking at one after the other
+meets_first : (db : Database) (w : Work) (put : Putting) (values : List Value) (except : Option RowId) (keys : List KeyTree)
+    → slice_get (filter_map (meet_key db w put.table put.do_nothing values except) keys) 0 ≡ meet_keys db w put values except keys
+meets_first db w put values except [] = refl
+meets_first db w put values except (key ∷ keys) = by (meet_key db w put.table put.do_nothing values except key) (meets_first db w put values except keys) where
+  others : List Meets
+  others = filter_map (meet_key db w put.table put.do_nothing values except) keys
 
-  by : (o : Option Stop) → slice_get others 0 ≡ stop_at_keys db w name values except keys → slice_get (cons_option o others) 0 ≡ option_or o (stop_at_keys db w name values except keys)
+  by : (o : Option Meets) → slice_get others 0 ≡ meet_keys db w put values except keys → slice_get (cons_option o others) 0 ≡ option_or o (meet_keys db w put values except keys)
   by None rest = rest
-  by (Some stop) rest = refl
+  by (Some met) rest = refl
 
 -- what is done at one target, put onto the walk so far
 abbrev onto : Walk → Visit → Walk
@@ -62,52 +62,73 @@ onto walk v =
     option_map_or (λ stop. record { db = v.db; place = walk.place; rows = walk.rows; stop = Some stop }) v.stop
     (record { db = v.db; place = walk.place + 1; rows = walk.rows ++ v.rows; stop = None })
 
+-- what is answered for a row
+shows_so : (w : Work) (items : Option (List ItemTree)) (walk : Walk) (db : Database) (row : List Value) → returned w items walk db row ≡ onto walk (shows w items db row)
+shows_so w None walk db row = refl
+shows_so w (Some items) walk db row = by (row_values (cols_in db w) items row) where
+  by : (r : Result (List Value) ValueFault)
+      → (elim r [ Ok shown ↦ passed walk db (shown ∷ []) | Err fault ↦ stopped (record walk { db = db }) (Fails (OfValue fault)) ]) ≡ onto walk (with_values db r (λ shown. goes_on db (shown ∷ [])))
+  by (Ok shown) = refl
+  by (Err fault) = refl
+
 -- a NULL stops it before any key
-stops_so : (walk : Walk) (after : Database) (name : List ℕ) (null : Option (List ℕ)) (first stop : Option Stop) → first ≡ stop
-    → option_map_or (stopped walk) (option_or (option_map (λ column. Fails (NullValue column name)) null) first) (passed walk after [])
-    ≡ onto walk (option_map_or (λ column. stops walk.db (Fails (NullValue column name))) null (option_map_or (stops walk.db) stop (goes_on after [])))
-stops_so walk after name (Some column) first stop same = refl
-stops_so walk after name None first stop same = ap (λ (o : Option Stop). option_map_or (stopped walk) o (passed walk after [])) same ∙ by stop where
-  by : (o : Option Stop) → option_map_or (stopped walk) o (passed walk after []) ≡ onto walk (option_map_or (stops walk.db) o (goes_on after []))
-  by None = refl
-  by (Some stop) = refl
+puts_so : (walk : Walk) (name : List ℕ) (null : Option (List ℕ)) (first met : Option Meets) (done : Walk) (visit : Visit) → first ≡ met → done ≡ onto walk visit
+    → option_map_or (meets walk) (option_or (option_map (λ column. Stops (Fails (NullValue column name))) null) first) done
+    ≡ onto walk (option_map_or (λ column. stops walk.db (Fails (NullValue column name))) null (option_map_or (at_key walk.db) met visit))
+puts_so walk name (Some column) first met done visit same put = refl
+puts_so walk name None first met done visit same put = ap (λ (o : Option Meets). option_map_or (meets walk) o done) same ∙ by met where
+  by : (o : Option Meets) → option_map_or (meets walk) o done ≡ onto walk (option_map_or (at_key walk.db) o visit)
+  by None = put
+  by (Some (Stops stop)) = refl
+  by (Some PassesOver) = refl
 
-puts_new : (w : Work) (name : List ℕ) (r : Result (List Value) ValueFault) (walk : Walk)
-    → put_row w name None r walk ≡ onto walk (with_values walk.db r (λ values. checked w name walk.db None values (inserted walk.db w values)))
-puts_new w name (Err fault) walk = refl
-puts_new w name (Ok values) walk =
+puts_new : (w : Work) (put : Putting) (r : Result (List Value) ValueFault) (walk : Walk)
+    → put_row w put None r walk ≡ onto walk (with_values walk.db r (λ values. checked w put walk.db None values (inserted walk.db w values)))
+puts_new w put (Err fault) walk = refl
+puts_new w put (Ok values) walk =
     let keys = keys_in walk.db w in
-    stops_so walk (inserted walk.db w values) name (null_in (columns_in walk.db w) values) _ (stop_at_keys walk.db w name values None keys) (stops_first walk.db w name values None keys)
+    let after = inserted walk.db w values in
+    puts_so walk put.table (null_in (columns_in walk.db w) values) _ (meet_keys walk.db w put values None keys) _ (shows w put.returning after values)
+    (meets_first walk.db w put values None keys) (shows_so w put.returning walk after values)
 
-puts_over : (w : Work) (name : List ℕ) (row : RowId) (r : Result (List Value) ValueFault) (walk : Walk)
-    → put_row w name (Some row) r walk ≡ onto walk (with_values walk.db r (λ values. checked w name walk.db (Some row) values (written walk.db w row (Some values))))
-puts_over w name row (Err fault) walk = refl
-puts_over w name row (Ok values) walk =
+puts_over : (w : Work) (put : Putting) (row : RowId) (r : Result (List Value) ValueFault) (walk : Walk)
+    → put_row w put (Some row) r walk ≡ onto walk (with_values walk.db r (λ values. checked w put walk.db (Some row) values (written walk.db w row (Some values))))
+puts_over w put row (Err fault) walk = refl
+puts_over w put row (Ok values) walk =
     let keys = keys_in walk.db w in
-    stops_so walk (written walk.db w row (Some values)) name (null_in (columns_in walk.db w) values) _ (stop_at_keys walk.db w name values (Some row) keys)
-    (stops_first walk.db w name values (Some row) keys)
+    let after = written walk.db w row (Some values) in
+    puts_so walk put.table (null_in (columns_in walk.db w) values) _ (meet_keys walk.db w put values (Some row) keys) _ (shows w put.returning after values)
+    (meets_first walk.db w put values (Some row) keys) (shows_so w put.returning walk after values)
 
 -- ---- tables stay as they are from one target to the next
 
-checked_stays : (w : Work) (name : List ℕ) (db : Database) (except : Option RowId) (values : List Value) (after : Database) → after.catalog ≡ db.catalog
-    → (checked w name db except values after).db.catalog ≡ db.catalog
-checked_stays w name db except values after same = at_null (null_in (columns_in db w) values) where
-  at_key : (o : Option Stop) → (option_map_or (stops db) o (goes_on after [])).db.catalog ≡ db.catalog
-  at_key None = same
-  at_key (Some stop) = refl
+shows_stays : (w : Work) (items : Option (List ItemTree)) (db : Database) (row : List Value) → (shows w items db row).db.catalog ≡ db.catalog
+shows_stays w None db row = refl
+shows_stays w (Some items) db row = by (row_values (cols_in db w) items row) where
+  by : (r : Result (List Value) ValueFault) → (with_values db r (λ shown. goes_on db (shown ∷ []))).db.catalog ≡ db.catalog
+  by (Ok shown) = refl
+  by (Err fault) = refl
+
+checked_stays : (w : Work) (put : Putting) (db : Database) (except : Option RowId) (values : List Value) (after : Database) → after.catalog ≡ db.catalog
+    → (checked w put db except values after).db.catalog ≡ db.catalog
+checked_stays w put db except values after same = at_null (null_in (columns_in db w) values) where
+  by_key : (o : Option Meets) → (option_map_or (at_key db) o (shows w put.returning after values)).db.catalog ≡ db.catalog
+  by_key None = shows_stays w put.returning after values ∙ same
+  by_key (Some (Stops stop)) = refl
+  by_key (Some PassesOver) = refl
 
   keys : Visit
-  keys = option_map_or (stops db) (stop_at_keys db w name values except (keys_in db w)) (goes_on after [])
+  keys = option_map_or (at_key db) (meet_keys db w put values except (keys_in db w)) (shows w put.returning after values)
 
-  at_null : (o : Option (List ℕ)) → (option_map_or (λ column. stops db (Fails (NullValue column name))) o keys).db.catalog ≡ db.catalog
-  at_null None = at_key (stop_at_keys db w name values except (keys_in db w))
+  at_null : (o : Option (List ℕ)) → (option_map_or (λ column. stops db (Fails (NullValue column put.table))) o keys).db.catalog ≡ db.catalog
+  at_null None = by_key (meet_keys db w put values except (keys_in db w))
   at_null (Some column) = refl
 
-insert_stays : (w : Work) (name : List ℕ) (to : List AssignedColumn) (db : Database) (row : List Tree) → (insert_one w name to db row).db.catalog ≡ db.catalog
-insert_stays w name to db row = by (new_values (length (columns_in db w)) to row) where
-  by : (r : Result (List Value) ValueFault) → (with_values db r (λ values. checked w name db None values (inserted db w values))).db.catalog ≡ db.catalog
+insert_stays : (w : Work) (put : Putting) (to : List AssignedColumn) (db : Database) (row : List Tree) → (insert_one w put to db row).db.catalog ≡ db.catalog
+insert_stays w put to db row = by (new_values (length (columns_in db w)) to row) where
+  by : (r : Result (List Value) ValueFault) → (with_values db r (λ values. checked w put db None values (inserted db w values))).db.catalog ≡ db.catalog
   by (Err fault) = refl
-  by (Ok values) = checked_stays w name db None values (inserted db w values) refl
+  by (Ok values) = checked_stays w put db None values (inserted db w values) refl
 
 update_stays : (w : Work) (u : UpdateTree) (to : List AssignedColumn) (db : Database) (seen : Seen) → (update_one w u to db seen).db.catalog ≡ db.catalog
 update_stays w u to db seen = at (target_outcome db.content db.held (waits_in db w.around.sessions) a) where
@@ -118,9 +139,9 @@ update_stays w u to db seen = at (target_outcome db.content db.held (waits_in db
   d = settled db w a
 
   by : (version : Seen) (r : Result (List Value) ValueFault)
-      → (with_values d r (λ values. checked w u.table d (Some version.row) values (written d w version.row (Some values)))).db.catalog ≡ db.catalog
+      → (with_values d r (λ values. checked w (put_update u) d (Some version.row) values (written d w version.row (Some values)))).db.catalog ≡ db.catalog
   by version (Err fault) = refl
-  by version (Ok values) = checked_stays w u.table d (Some version.row) values (written d w version.row (Some values)) refl
+  by version (Ok values) = checked_stays w (put_update u) d (Some version.row) values (written d w version.row (Some values)) refl
 
   at : (o : Outcome) → (at_outcome u.table (update_with w u to) d a o).db.catalog ≡ db.catalog
   at (Takes version) = by version (updated (cols_in d w) to u.sets (values_of d version))
@@ -204,14 +225,15 @@ module _ (w : Work) where
         let at = at_to to in
         settles_so u.table (act_on w (Updates u)) (update_with w u to) at (asked_to to) (target_outcome walk.db.content walk.db.held (waits_in walk.db w.around.sessions) (asked_to to))
         (λ version.
-        puts_over w u.table version.row (updated (cols_in at.db w) (assigned_to (columns_set (columns_in at.db w) u.sets)) u.sets (values_of at.db version)) at
+        puts_over w (put_update u) version.row (updated (cols_in at.db w) (assigned_to (columns_set (columns_in at.db w) u.sets)) u.sets (values_of at.db version)) at
         ∙ ap (λ (xs : List AssignedColumn). onto at (update_with w u xs at.db version)) (its at.db same))
 
   deletes_so : (d : DeleteTree) (walk : Walk) (seen : Seen) → visit_target w (Deletes d) walk seen ≡ onto walk (delete_one w d walk.db seen)
   deletes_so d walk seen =
       let a = ask walk.db w Update Wait d.filter seen in
       let at : Walk = record walk { db = settled walk.db w a } in
-      settles_so d.table (act_on w (Deletes d)) (delete_with w) at a (target_outcome walk.db.content walk.db.held (waits_in walk.db w.around.sessions) a) (λ version. refl)
+      settles_so d.table (act_on w (Deletes d)) (delete_with w d) at a (target_outcome walk.db.content walk.db.held (waits_in walk.db w.around.sessions) a)
+      (λ version. shows_so w d.returning at (written at.db w version.row None) (values_of at.db version))
 
   locks_so : (s : SelectTree) (l : Lock) → s.lock ≡ Some l → (walk : Walk) (seen : Seen) → visit_target w (Selects s) walk seen ≡ onto walk (lock_one w s l walk.db seen)
   locks_so s l its walk seen = ap goes its ∙ acts where
@@ -227,37 +249,32 @@ module _ (w : Work) where
     goes : Option Lock → Walk
     goes o = settles name (act_on w (Selects s)) (at_by o) (asked_by o) (target_outcome walk.db.content walk.db.held (waits_in walk.db w.around.sessions) (asked_by o))
 
-    shown : (at : Walk) (r : Result (List Value) ValueFault)
-        → (elim r [ Ok row ↦ passed at at.db (row ∷ []) | Err fault ↦ stopped at (Fails (OfValue fault)) ]) ≡ onto at (with_values at.db r (λ row. goes_on at.db (row ∷ [])))
-    shown at (Ok row) = refl
-    shown at (Err fault) = refl
-
     acts : goes (Some l) ≡ onto walk (lock_one w s l walk.db seen)
     acts =
         let at = at_by (Some l) in
         settles_so name (act_on w (Selects s)) (lock_with w s) at (asked_by (Some l)) (target_outcome walk.db.content walk.db.held (waits_in walk.db w.around.sessions) (asked_by (Some l)))
-        (λ version. shown at (row_values (cols_in at.db w) s.items (values_of at.db version)))
+        (λ version. shows_so w (Some s.items) at at.db (values_of at.db version))
 
 -- ---- what a walk leads to
 
 inserts_from : (db : Database) (w : Work) (i : InsertTree) (place : ℕ) (rows : List (List Value))
     → leads_to db w (Inserts i) (over (insert_row w i) (at_walk db place rows) (drop place i.rows)) ≡ insert_from db w i place rows
 inserts_from db w i place rows =
-    ap (after_walk db.content w done)
-    (walks_so (λ d. d.catalog ≡ db.catalog) (insert_row w i) (insert_one w i.table (to_in db)) same (λ d x at. insert_stays w i.table (to_in db) d x ∙ at) db place rows (drop place i.rows) refl) where
+    ap (after_walk db.content w (answer (columns_in db w) i.returning))
+    (walks_so (λ d. d.catalog ≡ db.catalog) (insert_row w i) (insert_one w (put_insert i) (to_in db)) same (λ d x at. insert_stays w (put_insert i) (to_in db) d x ∙ at) db place rows (drop place i.rows) refl) where
       to_in : Database → List AssignedColumn
       to_in d = assigned_to (columns_assigned (columns_in d w) i.columns)
 
-      same : (walk : Walk) (row : List Tree) → walk.db.catalog ≡ db.catalog → insert_row w i walk row ≡ onto walk (insert_one w i.table (to_in db) walk.db row)
+      same : (walk : Walk) (row : List Tree) → walk.db.catalog ≡ db.catalog → insert_row w i walk row ≡ onto walk (insert_one w (put_insert i) (to_in db) walk.db row)
       same walk row at =
-          puts_new w i.table (new_values (length (columns_in walk.db w)) (to_in walk.db) row) walk
-          ∙ ap (λ (xs : List AssignedColumn). onto walk (insert_one w i.table xs walk.db row)) (ap (λ (c : Catalog). to_in (record walk.db { catalog = c })) at)
+          puts_new w (put_insert i) (new_values (length (columns_in walk.db w)) (to_in walk.db) row) walk
+          ∙ ap (λ (xs : List AssignedColumn). onto walk (insert_one w (put_insert i) xs walk.db row)) (ap (λ (c : Catalog). to_in (record walk.db { catalog = c })) at)
 
 updates_from : (db : Database) (w : Work) (u : UpdateTree) (place : ℕ) (rows : List (List Value)) (r : Result (List ℕ) ValueFault)
     → leads_to db w (Updates u) (over_targets w (Updates u) (at_walk db place rows) r)
-    ≡ after_walk db.content w done (walked_from (update_one w u (assigned_to (columns_set (columns_in db w) u.sets))) db place rows (at_places (seen_by db w) r))
+    ≡ after_walk db.content w (answer (columns_in db w) u.returning) (walked_from (update_one w u (assigned_to (columns_set (columns_in db w) u.sets))) db place rows (at_places (seen_by db w) r))
 updates_from db w u place rows r =
-    ap (after_walk db.content w done)
+    ap (after_walk db.content w (answer (columns_in db w) u.returning))
     (goes_over (λ d. d.catalog ≡ db.catalog) w (Updates u) (update_one w u (to_in db)) (updates_so w u db.catalog (to_in db) same)
     (λ d x at. update_stays w u (to_in db) d x ∙ at) db place rows r refl) where
       to_in : Database → List AssignedColumn
@@ -268,16 +285,16 @@ updates_from db w u place rows r =
 
 deletes_from : (db : Database) (w : Work) (d : DeleteTree) (place : ℕ) (rows : List (List Value)) (r : Result (List ℕ) ValueFault)
     → leads_to db w (Deletes d) (over_targets w (Deletes d) (at_walk db place rows) r)
-    ≡ after_walk db.content w done (walked_from (delete_one w d) db place rows (at_places (seen_by db w) r))
+    ≡ after_walk db.content w (answer (columns_in db w) d.returning) (walked_from (delete_one w d) db place rows (at_places (seen_by db w) r))
 deletes_from db w d place rows r =
-    ap (after_walk db.content w done)
+    ap (after_walk db.content w (answer (columns_in db w) d.returning))
     (goes_over (λ e. Unit {0}) w (Deletes d) (delete_one w d) (λ walk seen p. deletes_so w d walk seen) (λ e x p. tt) db place rows r tt)
 
 locks_from : (db : Database) (w : Work) (s : SelectTree) (l : Lock) → s.lock ≡ Some l → (place : ℕ) (rows : List (List Value)) (r : Result (List ℕ) ValueFault)
     → leads_to db w (Selects s) (over_targets w (Selects s) (at_walk db place rows) r)
-    ≡ after_walk db.content w (λ shown. Rows (record { titles = titles_of (columns_in db w) s.items; rows = shown })) (walked_from (lock_one w s l) db place rows (at_places (seen_by db w) r))
+    ≡ after_walk db.content w (answer (columns_in db w) (Some s.items)) (walked_from (lock_one w s l) db place rows (at_places (seen_by db w) r))
 locks_from db w s l its place rows r =
-    ap (after_walk db.content w (λ shown. Rows (record { titles = titles_of (columns_in db w) s.items; rows = shown })))
+    ap (after_walk db.content w (answer (columns_in db w) (Some s.items)))
     (goes_over (λ e. Unit {0}) w (Selects s) (lock_one w s l) (λ walk seen p. locks_so w s l its walk seen) (λ e x p. tt) db place rows r tt)
 
 -- ---- a statement that begins
@@ -308,21 +325,30 @@ many_so db t false due else_due same = same
 inserts_so : (db : Database) (w : Work) (i : InsertTree) (due : Effect) → due ≡ insert_from db w i 0 []
     → option_map_or (fails db w.t) (fault_in (columns_in db w) (Inserts i)) due ≡ insert_to db w i (columns_assigned (columns_in db w) i.columns)
 inserts_so db w i due same = by (columns_assigned (columns_in db w) i.columns) where
-  undefined : Option (List ℕ)
-  undefined = undefined_among [] (flat_map (λ row. row) i.rows)
+  in_values : Option (List ℕ)
+  in_values = undefined_among [] (flat_map (λ row. row) i.rows)
+
+  in_returning : Option (List ℕ)
+  in_returning = undefined_among (cols_in db w) (returned_exprs i.returning)
 
   has_more : List AssignedColumn → Bool
   has_more to = list_any (λ row. nat_lt (length to) (length row)) i.rows
 
+  many : List AssignedColumn → Option StmtFault
+  many to = if has_more to then Some TooManyValues else None
+
+  unless_many : List AssignedColumn → Effect
+  unless_many to = if has_more to then fails db w.t TooManyValues else insert_from db w i 0 []
+
   by : (r : Result (List AssignedColumn) (List ℕ))
       → option_map_or (fails db w.t) (elim r [
         | Err column ↦ Some (NoColumnOf column i.table)
-        | Ok to ↦ option_or (option_map (λ name. OfValue (NoColumn name)) undefined) (if has_more to then Some TooManyValues else None)
+        | Ok to ↦ option_or (option_map (λ name. OfValue (NoColumn name)) in_values) (option_or (option_map (λ name. OfValue (NoColumn name)) in_returning) (many to))
       ]) due ≡ insert_to db w i r
   by (Err column) = refl
   by (Ok to) =
-      fails_so db w.t undefined (if has_more to then Some TooManyValues else None) due (if has_more to then fails db w.t TooManyValues else insert_from db w i 0 [])
-      (many_so db w.t (has_more to) due (insert_from db w i 0 []) same)
+      fails_so db w.t in_values (option_or (option_map (λ name. OfValue (NoColumn name)) in_returning) (many to)) due (unless_undefined db w.t in_returning (unless_many to))
+      (fails_so db w.t in_returning (many to) due (unless_many to) (many_so db w.t (has_more to) due (insert_from db w i 0 []) same))
 
 updates_to_so : (db : Database) (w : Work) (u : UpdateTree) (due : Effect) → due ≡ update_from db w u 0 []
     → option_map_or (fails db w.t) (fault_in (columns_in db w) (Updates u)) due ≡ update_to db w u (columns_set (columns_in db w) u.sets)
@@ -363,7 +389,7 @@ module _ (db : Database) (t : OpenTransaction) (around : Surroundings) where
   delete_begins d None = refl
   delete_begins d (Some k) =
       let w = beginning db t around k in
-      let undefined = undefined_among (cols_in db w) (option_to_list d.filter) in
+      let undefined = undefined_among (cols_in db w) (delete_exprs d) in
       undefined_so db t undefined _
       ∙ ap (unless_undefined db t undefined) (deletes_from db w d 0 [] (passing (cols_in db w) d.filter (rows_shown db.content w.view w.table)))
 

@@ -9,17 +9,18 @@ use Rattle.row_versions.specs.declared.names.TxId.{TxId}
 use Rattle.row_versions.specs.declared.names.RowId.{RowId}
 use Rattle.row_versions.specs.Members.{is_none_of}
 use Rattle.row_versions.specs.Log.{Content}
-use Rattle.unique_keys.specs.Checks.{found_by, is_taken, key_found}
+use Rattle.row_versions.specs.declared.write.Seen.{Seen}
+use Rattle.unique_keys.specs.Checks.{found_by, taken_by, key_found}
 use Rattle.session_machine.specs.declared.session.OpenTransaction.{OpenTransaction}
 use Rattle.session_machine.specs.declared.session.Request.TheVariants.{Key}
 use Rattle.session_machine.specs.declared.fault.StmtFault.TheVariants.{KeyTaken, NoTableToDrop}
 use Rattle.session_machine.specs.Tables.{Database, Dropped, Table, find_table, is_meant}
 use Rattle.session_machine.specs.Waits.{blockers}
 use Rattle.session_machine.specs.Statements.{Effect, drop_tables, fails}
-use Rattle.session_machine.specs.Walks.{Stop, Fails}
-use Rattle.session_machine.specs.Rows.{Work, columns_in, stop_at_key}
+use Rattle.session_machine.specs.Walks.{Fails}
+use Rattle.session_machine.specs.Rows.{Work, Meets, Stops, columns_in, does_nothing, meet_key}
 use Rattle.session_machine.specs.Targets.{asked_key, names_at}
-use Rattle.session_machine.specs.Inner.Pieces.{DroppedUpTo, drop_ended, dropped, dropped_at, find_from, held_by_others, stop_by, with_drop}
+use Rattle.session_machine.specs.Inner.Pieces.{DroppedUpTo, drop_ended, dropped, dropped_at, find_from, held_by_others, meet_by, with_drop}
 
 -- the table that a name means, by looking at one after the other
 finds_from : (c : Content) (own : Option TxId) (drops : List Dropped) (name : List ℕ) (k : ℕ) (tables : List Table)
@@ -37,18 +38,19 @@ finds_from c own drops name k (t ∷ ts) = by (is_meant c own drops name k t) (f
 pub finds_by : (db : Database) (own : Option TxId) (name : List ℕ) → find_table db own name ≡ find_from db.content own db.catalog.drops name 0 db.catalog.tables
 finds_by db own name = finds_from db.content own db.catalog.drops name 0 db.catalog.tables
 
--- what stops a statement at a key, by what is found of the key
-pub stops_by : (db : Database) (w : Work) (name : List ℕ) (values : List Value) (except : Option RowId) (key : KeyTree)
-    → stop_at_key db w name values except key ≡ stop_by db w name values key (key_found db.content (record { 0 = w.table }) w.t.tx except values key.columns)
-stops_by db w name values except key = by (blockers db (Key (asked_key w values key)) w.t.tx) (is_taken db.content (record { 0 = w.table }) w.t.tx except values key.columns) where
-  taken : Option Stop
-  taken = Some (Fails (KeyTaken (key_name name key.primary (names_at (columns_in db w) key.columns))))
+-- what a row meets at a key, by what is found of the key
+pub meets_by : (db : Database) (w : Work) (name : List ℕ) (do_nothing : Bool) (values : List Value) (except : Option RowId) (key : KeyTree)
+    → meet_key db w name do_nothing values except key ≡ meet_by db w name do_nothing values key (key_found db.content (record { 0 = w.table }) w.t.tx except values key.columns)
+meets_by db w name do_nothing values except key = by (blockers db (Key (asked_key w values key)) w.t.tx) (taken_by db.content (record { 0 = w.table }) w.t.tx except values key.columns) where
+  at_version : Seen → Meets
+  at_version version = if do_nothing then does_nothing db w version else Stops (Fails (KeyTaken (key_name name key.primary (names_at (columns_in db w) key.columns))))
 
-  by : (bs : List TxId) (b : Bool)
-      → (let o : Option Stop = if not (is_none_of bs) then Some (held_by_others db w (asked_key w values key)) else if b then taken else None in o ≡ stop_by db w name values key (found_by bs b))
-  by [] true = refl
-  by [] false = refl
-  by (tx ∷ rest) b = refl
+  by : (bs : List TxId) (taken : Option Seen)
+      → (let o : Option Meets = if not (is_none_of bs) then Some (Stops (held_by_others db w (asked_key w values key))) else option_map at_version taken in
+      o ≡ meet_by db w name do_nothing values key (found_by bs taken))
+  by [] (Some version) = refl
+  by [] None = refl
+  by (tx ∷ rest) taken = refl
 
 -- what a DROP comes to, by the tables that were dropped and the one that is missing
 pub drops_by : (db : Database) (t : OpenTransaction) (if_exists : Bool) (names : List (List ℕ))

@@ -1,14 +1,16 @@
 -- To be believed. What a statement does with rows: INSERT with those of its VALUES, and UPDATE, DELETE and a locking SELECT with their targets
 -- (PostgreSQL manual, 13.2.1 and 13.3.2, and the pages of the statements).
-use Rattle.std.specs.Prelude.{ℕ, false, not, List, ◌∷◌, length, map, flat_map, drop, Option, Some, None, option_map, option_and_then, unwrap_or, slice_get, filter_map, Result, Ok, Err, if◌then◌else◌, []}
+use Rattle.std.specs.Prelude.{ℕ, ◌==◌, Bool, false, not, ◌||◌, List, ◌∷◌, length, map, flat_map, drop, Option, Some, None, option_map, option_and_then, unwrap_or, slice_get, filter_map, Result, Ok, Err, if◌then◌else◌, []}
+use Rattle.std.specs.List.{list_any}
 use Rattle.std.specs.Option.{option_map_or, option_or}
 use Rattle.std.specs.Result.{result_unwrap_or}
+use Rattle.sql_trees.specs.declared.stmt.Level.TheVariants.{ReadCommitted, RepeatableRead}
 use Rattle.sql_trees.specs.declared.stmt.Strength.{Strength}
 use Rattle.sql_trees.specs.declared.stmt.Strength.TheVariants.{NoKeyUpdate, Update}
 use Rattle.sql_trees.specs.declared.stmt.Policy.{Policy}
 use Rattle.sql_trees.specs.declared.stmt.Policy.TheVariants.{Wait}
 use Rattle.sql_trees.specs.Trees.{Tree}
-use Rattle.sql_trees.specs.Statements.{ColumnTree, KeyTree, StmtTree, InsertTree, UpdateTree, Inserts, Updates, Deletes, Selects, key_name}
+use Rattle.sql_trees.specs.Statements.{ColumnTree, ItemTree, KeyTree, StmtTree, InsertTree, UpdateTree, Inserts, Updates, Deletes, Selects, key_name}
 use Rattle.sql_values.specs.declared.value.Value.{Value}
 use Rattle.sql_values.specs.declared.fault.ValueFault.{ValueFault}
 use Rattle.sql_values.specs.Expressions.{Cols}
@@ -17,13 +19,14 @@ use Rattle.query_results.specs.Updates.{columns_set, leaves_all, updated}
 use Rattle.row_versions.specs.declared.names.RowId.{RowId}
 use Rattle.row_versions.specs.declared.write.View.{View}
 use Rattle.row_versions.specs.declared.write.Seen.{Seen}
+use Rattle.row_versions.specs.declared.write.Write.{Write}
 use Rattle.row_versions.specs.Log.{values_at, new_row, after_write}
-use Rattle.row_versions.specs.Members.{is_none_of}
+use Rattle.row_versions.specs.Members.{is_none_of, same_tx}
 use Rattle.row_versions.specs.Rows.{rows_of}
 use Rattle.row_versions.specs.Newest.{newest_of}
 use Rattle.row_locks.specs.Held.{with_lock}
 use Rattle.row_locks.specs.Cycles.{closes}
-use Rattle.unique_keys.specs.Checks.{is_taken}
+use Rattle.unique_keys.specs.Checks.{taken_by}
 use Rattle.update_recheck.specs.Asked.{Asked}
 use Rattle.update_recheck.specs.Outcome.{target_outcome, is_target_locked}
 use Rattle.update_recheck.specs.Outcome.Outcome.{Takes, Skips, Waits, Deadlocks, NotFree as IsNotFree, Serializes, Faults}
@@ -64,41 +67,69 @@ written db w row values = record db { content = after_write db.content (record {
 abbrev pub inserted : Database → Work → List Value → Database
 inserted db w values = record (written db w (new_row db.content) (Some values)) { held = with_lock db.held (record { row = new_row db.content; tx = w.t.tx; strength = Update }) }
 
+-- what a row that is about to be written meets at a key that isn't free: the statement stops there, or passes the row over
+pub data Meets : Type 0 where
+  Stops : Stop → Meets
+  PassesOver : Meets
+
+-- the transaction knows the version: its statement's view shows it, or it wrote it itself
+abbrev pub is_known : Database → Work → Seen → Bool
+is_known db w version =
+    list_any (λ (s : Seen). s.place == version.place) (rows_of db.content w.view (record { 0 = w.table })) || option_map_or (λ (x : Write). same_tx x.tx w.t.tx) (slice_get db.content.log version.place) false
+
+-- ON CONFLICT DO NOTHING passes a row over whose key is taken; in Repeatable Read only where the transaction knows the version that has it (INSERT, "ON CONFLICT Clause"; 13.2.2)
+abbrev pub does_nothing : Database → Work → Seen → Meets
+does_nothing db w version = elim w.t.level [ ReadCommitted ↦ PassesOver | RepeatableRead ↦ if is_known db w version then PassesOver else Stops (Fails NotSerializable) ]
+
 -- a row with these values is about to be written, in place of a row or as a new one. Where others hold the key the statement waits for them, or fails where
--- that wait would close a cycle; else it fails where another row of the table has the key
-abbrev pub stop_at_key : Database → Work → List ℕ → List Value → Option RowId → KeyTree → Option Stop
-stop_at_key db w name values except key =
+-- that wait would close a cycle; else it fails where another row of the table has the key, or, where it says so, does nothing
+abbrev pub meet_key : Database → Work → List ℕ → Bool → List Value → Option RowId → KeyTree → Option Meets
+meet_key db w name do_nothing values except key =
     let asked : AskedKey = record { table = record { 0 = w.table }; columns = key.columns; values = values } in
     let by = blockers db (Key asked) w.t.tx in
     let names = map (λ place. unwrap_or (option_map (λ (c : ColumnTree). c.name) (slice_get (columns_in db w) place)) []) key.columns in
-    if not (is_none_of by) then Some (if closes (waits_in db w.around.sessions) w.t.tx by then Fails Deadlock else Blocked (Key asked))
-    else if is_taken db.content asked.table w.t.tx except values key.columns then Some (Fails (KeyTaken (key_name name key.primary names)))
-    else None
+    if not (is_none_of by) then Some (Stops (if closes (waits_in db w.around.sessions) w.t.tx by then Fails Deadlock else Blocked (Key asked)))
+    else option_map (λ version. if do_nothing then does_nothing db w version else Stops (Fails (KeyTaken (key_name name key.primary names))))
+    (taken_by db.content asked.table w.t.tx except values key.columns)
 
--- a row of the table of this name is to have these values, in place of that row or as a new one. Where they have no value the statement stops, then at a NULL
--- where none may be, then at the first key in declared order that isn't free (5.5.3); else the row is written
-abbrev pub put_row : Work → List ℕ → Option RowId → Result (List Value) ValueFault → Walk → Walk
-put_row w name row (Err fault) walk = stopped walk (Fails (OfValue fault))
-put_row w name row (Ok values) walk =
-    let null = option_map (λ column. Fails (NullValue column name)) (null_in (columns_in walk.db w) values) in
+-- a row was written, or deleted, that leads to this database: RETURNING answers its items on it, if there is one (6.4)
+abbrev pub returned : Work → Option (List ItemTree) → Walk → Database → List Value → Walk
+returned w None walk db row = passed walk db []
+returned w (Some items) walk db row = elim (row_values (cols_in db w) items row) [ Ok shown ↦ passed walk db (shown ∷ []) | Err fault ↦ stopped (record walk { db = db }) (Fails (OfValue fault)) ]
+
+-- how a statement puts rows into its table: the table's name, whether it passes over rows whose key is taken, and the items of RETURNING
+pub record Putting : Type 0 where
+  pub table : List ℕ
+  pub do_nothing : Bool
+  pub returning : Option (List ItemTree)
+
+abbrev pub meets : Walk → Meets → Walk
+meets walk (Stops stop) = stopped walk stop
+meets walk PassesOver = passed walk walk.db []
+
+-- a row of the table is to have these values, in place of that row or as a new one. Where they have no value the statement stops, then at a NULL
+-- where none may be; then the first key in declared order that isn't free decides (5.5.3); else the row is written
+abbrev pub put_row : Work → Putting → Option RowId → Result (List Value) ValueFault → Walk → Walk
+put_row w put row (Err fault) walk = stopped walk (Fails (OfValue fault))
+put_row w put row (Ok values) walk =
+    let null = option_map (λ column. Stops (Fails (NullValue column put.table))) (null_in (columns_in walk.db w) values) in
     let keys = unwrap_or (option_map (λ (t : Table). t.made.keys) (slice_get walk.db.catalog.tables w.table)) [] in
-    let stop = option_or null (slice_get (filter_map (stop_at_key walk.db w name values row) keys) 0) in
-    option_map_or (stopped walk) stop (passed walk (option_map_or (λ place. written walk.db w place (Some values)) row (inserted walk.db w values)) [])
+    let met = option_or null (slice_get (filter_map (meet_key walk.db w put.table put.do_nothing values row) keys) 0) in
+    option_map_or (meets walk) met (returned w put.returning walk (option_map_or (λ place. written walk.db w place (Some values)) row (inserted walk.db w values)) values)
 
 -- INSERT at a row of its VALUES
 abbrev pub insert_row : Work → InsertTree → Walk → List Tree → Walk
 insert_row w i walk row =
-    put_row w i.table None (new_values (length (columns_in walk.db w)) (result_unwrap_or (columns_assigned (columns_in walk.db w) i.columns) []) row) walk
+    put_row w (record { table = i.table; do_nothing = i.do_nothing; returning = i.returning }) None
+    (new_values (length (columns_in walk.db w)) (result_unwrap_or (columns_assigned (columns_in walk.db w) i.columns) []) row) walk
 
 -- what a statement does with the version that a target takes: UPDATE writes a new one, DELETE one without values, and a locking SELECT answers its items
 abbrev pub act_on : Work → StmtTree → Walk → Seen → Walk
 act_on w (Updates u) walk version =
-    put_row w u.table (Some version.row) (updated (cols_in walk.db w) (result_unwrap_or (columns_set (columns_in walk.db w) u.sets) []) u.sets (values_of walk.db version)) walk
-act_on w (Deletes d) walk version = passed walk (written walk.db w version.row None) []
-act_on w (Selects s) walk version = elim (row_values (cols_in walk.db w) s.items (values_of walk.db version)) [
-  | Ok row ↦ passed walk walk.db (row ∷ [])
-  | Err fault ↦ stopped walk (Fails (OfValue fault))
-]
+    put_row w (record { table = u.table; do_nothing = false; returning = u.returning }) (Some version.row)
+    (updated (cols_in walk.db w) (result_unwrap_or (columns_set (columns_in walk.db w) u.sets) []) u.sets (values_of walk.db version)) walk
+act_on w (Deletes d) walk version = returned w d.returning walk (written walk.db w version.row None) (values_of walk.db version)
+act_on w (Selects s) walk version = returned w (Some s.items) walk walk.db (values_of walk.db version)
 act_on w stmt walk version = passed walk walk.db []
 
 -- the table that a statement names whose rows it goes over, or to which it adds rows

@@ -1,16 +1,16 @@
 -- To be believed. A statement is run: it begins, or goes on where it waits, by what its session's transaction is (PostgreSQL manual, the pages of the statements, and 13.2).
-use Rattle.std.specs.Prelude.{ℕ, ◌++◌, Bool, true, false, List, ◌∷◌, length, flat_map, nat_lt, Option, Some, None, option_map, option_to_list, unwrap_or, Ok, Err, if◌then◌else◌, []}
+use Rattle.std.specs.Prelude.{ℕ, ◌++◌, Bool, true, false, List, ◌∷◌, length, flat_map, nat_lt, Option, Some, None, option_map, unwrap_or, Ok, Err, if◌then◌else◌, []}
 use Rattle.std.specs.List.{list_any}
 use Rattle.std.specs.Option.{option_map_or, option_or}
 use Rattle.sql_trees.specs.declared.stmt.Level.TheVariants.{ReadCommitted}
 use Rattle.sql_trees.specs.Trees.{Tree}
-use Rattle.sql_trees.specs.Statements.{ColumnTree, StmtTree}
+use Rattle.sql_trees.specs.Statements.{ColumnTree, ItemTree, StmtTree}
 use Rattle.sql_trees.specs.Statements.{Begin, Commit, Rollback, SetTransaction, SetDeadlockTimeout, Create, DropTables, Inserts, Updates, Deletes, Selects}
 use Rattle.sql_values.specs.declared.value.Value.{Value}
 use Rattle.sql_values.specs.declared.fault.ValueFault.TheVariants.{NoColumn}
 use Rattle.sql_values.specs.Expressions.{Cols}
-use Rattle.query_results.specs.Queries.{cols_of, result_of, select_exprs, columns_assigned, titles_of, undefined_among, wrong_position}
-use Rattle.query_results.specs.Updates.{columns_set, update_exprs}
+use Rattle.query_results.specs.Queries.{cols_of, result_of, select_exprs, returned_exprs, columns_assigned, titles_of, undefined_among, wrong_position}
+use Rattle.query_results.specs.Updates.{columns_set, delete_exprs, update_exprs}
 use Rattle.session_machine.specs.declared.session.OpenTransaction.{OpenTransaction}
 use Rattle.session_machine.specs.declared.session.Transaction.{Transaction}
 use Rattle.session_machine.specs.declared.session.Transaction.TheVariants.{Closed, Open, Aborted as AbortedOne}
@@ -35,17 +35,27 @@ undefined_in cols es = option_map (λ name. OfValue (NoColumn name)) (undefined_
 abbrev pub fault_in : List ColumnTree → StmtTree → Option StmtFault
 fault_in columns (Inserts i) = elim (columns_assigned columns i.columns) [
   | Err column ↦ Some (NoColumnOf column i.table)
-  | Ok to ↦ option_or (undefined_in [] (flat_map (λ row. row) i.rows)) (if list_any (λ row. nat_lt (length to) (length row)) i.rows then Some TooManyValues else None)
+  | Ok to ↦
+      option_or (undefined_in [] (flat_map (λ row. row) i.rows)) (option_or (undefined_in (cols_of columns) (returned_exprs i.returning))
+      (if list_any (λ row. nat_lt (length to) (length row)) i.rows then Some TooManyValues else None))
 ]
 fault_in columns (Updates u) = elim (columns_set columns u.sets) [ Err column ↦ Some (NoColumnOf column u.table) | Ok to ↦ undefined_in (cols_of columns) (update_exprs u) ]
-fault_in columns (Deletes d) = undefined_in (cols_of columns) (option_to_list d.filter)
+fault_in columns (Deletes d) = undefined_in (cols_of columns) (delete_exprs d)
 fault_in columns (Selects s) = option_or (undefined_in (cols_of columns) (select_exprs s)) (option_map NoPosition (wrong_position columns s))
 fault_in columns stmt = None
 
--- what a statement comes to that has gone so far: it is done, and a locking SELECT answers its rows; or it waits where it stands, its transaction's snapshot taken; or it fails
+-- the items of a statement that goes over rows and answers a result: a locking SELECT's, or RETURNING's
+abbrev pub items_answered : StmtTree → Option (List ItemTree)
+items_answered (Inserts i) = i.returning
+items_answered (Updates u) = u.returning
+items_answered (Deletes d) = d.returning
+items_answered (Selects s) = Some s.items
+items_answered stmt = None
+
+-- what a statement comes to that has gone so far: it is done, and answers its rows, if it has items for them; or it waits where it stands, its transaction's snapshot taken; or it fails
 abbrev pub leads_to : Database → Work → StmtTree → Walk → Effect
 leads_to db w stmt walk = elim walk.stop [
-  | None ↦ answers db.content walk.db w.t (elim stmt [ Selects s ↦ Rows (record { titles = titles_of (columns_in db w) s.items; rows = walk.rows }) | other ↦ Done ])
+  | None ↦ answers db.content walk.db w.t (option_map_or (λ items. Rows (record { titles = titles_of (columns_in db w) items; rows = walk.rows })) (items_answered stmt) Done)
   | Some (Blocked request) ↦
       let at : Progress = record { table = record { 0 = w.table }; view = w.view; place = walk.place; rows = walk.rows; wait = record { number = w.around.number; request = request } } in
       record { db = walk.db; transaction = Open (started db.content w.t); statement = Some at; outcome = Waits }

@@ -7,14 +7,14 @@ use Rattle.std.proofs.lemmas.Grind.{flat_map-append}
 use Rattle.std.proofs.lemmas.List.Folds.{find-append}
 use Rattle.sql_trees.specs.Trees.{Tree, Trees}
 use Rattle.sql_trees.specs.Trees as tree
-use Rattle.sql_trees.specs.Statements.{ColumnTree, ItemTree, OrderTree, SelectTree, SetTree, UpdateTree}
+use Rattle.sql_trees.specs.Statements.{ColumnTree, DeleteTree, ItemTree, OrderTree, SelectTree, SetTree, UpdateTree}
 use Rattle.sql_trees.specs.Statements as item
 use Rattle.sql_values.specs.Arithmetic.{signed}
 use Rattle.sql_values.specs.Expressions.{Cols}
-use Rattle.query_results.specs.Queries.{columns_named, columns_named_in, meant, select_exprs, titles_of, undefined_among, wrong_position}
+use Rattle.query_results.specs.Queries.{columns_named, columns_named_in, meant, returned_exprs, select_exprs, titles_of, undefined_among, wrong_position}
 use Rattle.query_results.specs.Inner.Pieces.{item_exprs, key_number}
-use Rattle.query_results.specs.Updates.{update_exprs}
-use Rattle.session_queries.specs.Inner.Undefined.{first_of, undefined_column, undefined_in_list, undefined_in_condition, undefined_in_item, undefined_in_rows, undefined_in_select, undefined_in_update, unlisted}
+use Rattle.query_results.specs.Updates.{delete_exprs, update_exprs}
+use Rattle.session_queries.specs.Inner.Undefined.{first_of, undefined_column, undefined_in_list, undefined_in_condition, undefined_in_item, undefined_in_changes, undefined_in_returned, undefined_in_rows, undefined_in_select, unlisted}
 
 abbrev is_undefined : Cols → List ℕ → Bool
 is_undefined cols name = is_none (position (λ c. bytes_eq name c.0) cols)
@@ -88,10 +88,22 @@ of_select cols s =
     ∙ or_assoc (undefined_among cols (flat_map item_exprs s.items)) (undefined_among cols (option_to_list s.filter)) (undefined_among cols keys)
     ∙ λ i. option_or (of_items cols s.items i) (option_or (of_condition cols s.filter i) (among_each cols (λ (k : OrderTree). meant s.items k.expr) s.order i))
 
-pub of_update : (cols : Cols) (u : UpdateTree) → undefined_among cols (update_exprs u) ≡ undefined_in_update cols u
-of_update cols u =
+of_changes : (cols : Cols) (u : UpdateTree) → undefined_among cols (map (λ (s : SetTree). s.value) u.sets ++ option_to_list u.filter) ≡ undefined_in_changes cols u
+of_changes cols u =
     among_both cols (map (λ (s : SetTree). s.value) u.sets) (option_to_list u.filter)
     ∙ λ i. option_or (among_each cols (λ (s : SetTree). s.value) u.sets i) (of_condition cols u.filter i)
+
+pub of_returned : (cols : Cols) (items : Option (List ItemTree)) → undefined_among cols (returned_exprs items) ≡ undefined_in_returned cols items
+of_returned cols None = refl
+of_returned cols (Some items) = of_items cols items
+
+pub of_update : (cols : Cols) (u : UpdateTree) → undefined_among cols (update_exprs u) ≡ option_or (undefined_in_changes cols u) (undefined_in_returned cols u.returning)
+of_update cols u =
+    among_both cols (map (λ (s : SetTree). s.value) u.sets ++ option_to_list u.filter) (returned_exprs u.returning)
+    ∙ λ i. option_or (of_changes cols u i) (of_returned cols u.returning i)
+
+pub of_delete : (cols : Cols) (d : DeleteTree) → undefined_among cols (delete_exprs d) ≡ option_or (undefined_in_condition cols d.filter) (undefined_in_returned cols d.returning)
+of_delete cols d = among_both cols (option_to_list d.filter) (returned_exprs d.returning) ∙ λ i. option_or (of_condition cols d.filter i) (of_returned cols d.returning i)
 
 among_all : (es : List Tree) → undefined_among [] es ≡ first_of (undefined_column []) es
 among_all [] = refl
@@ -133,8 +145,13 @@ of_position columns s = of_keys (length (titles_of columns s.items)) s.order
 pub select_answer : (cols : Cols) (s : SelectTree) (o : Option (List ℕ)) → o ≡ undefined_in_select cols s → o ≡ undefined_among cols (select_exprs s)
 select_answer cols s o h = h ∙ sym (of_select cols s)
 
-pub update_answer : (cols : Cols) (u : UpdateTree) (o : Option (List ℕ)) → o ≡ undefined_in_update cols u → o ≡ undefined_among cols (update_exprs u)
+-- what is found of the other parts, or else of RETURNING
+pub update_answer : (cols : Cols) (u : UpdateTree) (o : Option (List ℕ)) → o ≡ option_or (undefined_in_changes cols u) (undefined_in_returned cols u.returning) → o ≡ undefined_among cols (update_exprs u)
 update_answer cols u o h = h ∙ sym (of_update cols u)
+
+pub delete_answer : (cols : Cols) (d : DeleteTree) (o : Option (List ℕ)) → o ≡ option_or (undefined_in_condition cols d.filter) (undefined_in_returned cols d.returning)
+    → o ≡ undefined_among cols (delete_exprs d)
+delete_answer cols d o h = h ∙ sym (of_delete cols d)
 
 pub rows_answer : (rows : List (List Tree)) (o : Option (List ℕ)) → o ≡ undefined_in_rows rows → o ≡ undefined_among [] (flat_map (λ row. row) rows)
 rows_answer rows o h = h ∙ sym (of_rows rows)

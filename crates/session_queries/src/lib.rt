@@ -24,7 +24,8 @@ pub use passing::passing_places;
 pub use positions::wrong_position;
 pub use titles::titles_of;
 pub use undefined::{
-    undefined_in_filter, undefined_in_rows, undefined_in_select, undefined_in_update,
+    undefined_in_delete, undefined_in_returning, undefined_in_rows, undefined_in_select,
+    undefined_in_update,
 };
 pub use update::updated_values;
 pub use values_check::{null_in, some_too_long};

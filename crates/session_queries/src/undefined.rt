@@ -1,15 +1,15 @@
 //! Columns that are named and aren't there.
 
-ghost use Rattle.std.specs.Prelude.{◌≡◌, [], flat_map, map, option_map, option_to_list};
+ghost use Rattle.std.specs.Prelude.{◌≡◌, [], flat_map, map, option_map};
 ghost use Rattle.sql_trees.specs.Trees.{agg_of, tree_of, trees, Column as NamedColumn};
-ghost use Rattle.sql_trees.specs.Statements.{OrderTree, SetTree, column_of, exprs_of, item_of, name_of, order_of, select_of, set_of, update_of};
-ghost use Rattle.query_results.specs.Queries.{cols_of, select_exprs, undefined_among};
-ghost use Rattle.query_results.specs.Updates.{update_exprs};
-ghost use Rattle.session_queries.specs.Inner.Undefined.{first_of, undefined_column, undefined_in_list, undefined_in_condition, undefined_in_item, undefined_in_agg, undefined_in_key};
+ghost use Rattle.sql_trees.specs.Statements.{OrderTree, SetTree, column_of, delete_of, exprs_of, item_of, items_of, name_of, order_of, select_of, set_of, update_of};
+ghost use Rattle.query_results.specs.Queries.{cols_of, returned_exprs, select_exprs, undefined_among};
+ghost use Rattle.query_results.specs.Updates.{delete_exprs, update_exprs};
+ghost use Rattle.session_queries.specs.Inner.Undefined.{first_of, undefined_column, undefined_in_list, undefined_in_changes, undefined_in_condition, undefined_in_item, undefined_in_agg, undefined_in_key, undefined_in_returned};
 
 use crate::keys::aliased;
 use iso_lexer::{Ident, Name};
-use sql_trees::{Agg, Column, Expr, Item, OrderKey, Select, Update};
+use sql_trees::{Agg, Column, Delete, Expr, Item, OrderKey, Select, Update};
 use sql_values::Columns;
 
 /// The name, if no column has it.
@@ -176,18 +176,6 @@ pub fn undefined_in_select<'a>(columns: &[Column<'_>], select: &Select<'a>) -> O
     }
 }
 
-/// The first column that WHERE names and that isn't among these.
-#[tactic(auto, using(crate::proofs::ColumnLists::known_columns, crate::proofs::ColumnsNamed::of_condition))]
-pub fn undefined_in_filter<'a>(
-    columns: &[Column<'_>],
-    filter: &Option<Expr<'a>>,
-) -> Option<Ident<'a>>
-    ensures { result ≡ undefined_among (cols_of (map column_of columns.now)) (option_to_list (option_map tree_of filter.now)) }
-{
-    let columns = Columns::of(columns);
-    undefined_in_condition(&columns, filter)
-}
-
 fn undefined_in_sets<'a>(columns: &Columns<'_>, sets: &[(Name<'a>, Expr<'a>)]) -> Option<Ident<'a>>
     ensures { result ≡ first_of (λ (s : SetTree). undefined_column columns.now s.value) (map set_of sets.now) }
 {
@@ -199,14 +187,59 @@ fn undefined_in_sets<'a>(columns: &Columns<'_>, sets: &[(Name<'a>, Expr<'a>)]) -
     None
 }
 
-/// The first column that the UPDATE names and that isn't among these: of its new values, then of its WHERE. It looks at no column that is assigned to.
+fn undefined_in_returned<'a>(
+    columns: &Columns<'_>,
+    items: &Option<Vec<Item<'a>>>,
+) -> Option<Ident<'a>>
+    ensures { result ≡ undefined_in_returned columns.now (option_map items_of items.now) }
+{
+    match items {
+        Some(items) => undefined_in_items(columns, items),
+        None => None,
+    }
+}
+
+/// The first column that RETURNING names and that isn't among these.
+#[tactic(auto, using(crate::proofs::ColumnLists::known_columns, crate::proofs::ColumnsNamed::of_returned))]
+pub fn undefined_in_returning<'a>(
+    columns: &[Column<'_>],
+    items: &Option<Vec<Item<'a>>>,
+) -> Option<Ident<'a>>
+    ensures { result ≡ undefined_among (cols_of (map column_of columns.now)) (returned_exprs (option_map items_of items.now)) }
+{
+    let columns = Columns::of(columns);
+    undefined_in_returned(&columns, items)
+}
+
+fn undefined_in_changes<'a>(columns: &Columns<'_>, update: &Update<'a>) -> Option<Ident<'a>>
+    ensures { result ≡ undefined_in_changes columns.now (update_of update.now) }
+{
+    match undefined_in_sets(columns, &update.sets) {
+        Some(name) => Some(name),
+        None => undefined_in_condition(columns, &update.filter),
+    }
+}
+
+/// The first column that the UPDATE names and that isn't among these: of its new values, of its WHERE, then of RETURNING. It looks at no column that is assigned to.
 #[tactic(auto, using(crate::proofs::ColumnLists::known_columns))]
 pub fn undefined_in_update<'a>(columns: &[Column<'_>], update: &Update<'a>) -> Option<Ident<'a>>
     ensures { result ≡ undefined_among (cols_of (map column_of columns.now)) (update_exprs (update_of update.now)) }
 {
     let columns = Columns::of(columns);
-    match undefined_in_sets(&columns, &update.sets) {
+    match undefined_in_changes(&columns, update) {
         Some(name) => Some(name),
-        None => undefined_in_condition(&columns, &update.filter),
+        None => undefined_in_returned(&columns, &update.returning),
+    }
+}
+
+/// The first column that the DELETE names and that isn't among these: of its WHERE, then of RETURNING.
+#[tactic(auto, using(crate::proofs::ColumnLists::known_columns))]
+pub fn undefined_in_delete<'a>(columns: &[Column<'_>], delete: &Delete<'a>) -> Option<Ident<'a>>
+    ensures { result ≡ undefined_among (cols_of (map column_of columns.now)) (delete_exprs (delete_of delete.now)) }
+{
+    let columns = Columns::of(columns);
+    match undefined_in_condition(&columns, &delete.filter) {
+        Some(name) => Some(name),
+        None => undefined_in_returned(&columns, &delete.returning),
     }
 }

@@ -33,13 +33,13 @@ select_sync : (κ : NamedLft) → IsSync (Select.the_row κ)
 select_sync κ = search (sendable, crosses, name_sync, expr_sync, item_sync, order_sync, lock_sync) depth 60 fits 10000
 
 insert_sync : (κ : NamedLft) → IsSync (Insert.the_row κ)
-insert_sync κ = search (sendable, crosses, name_sync, expr_sync) depth 60 fits 10000
+insert_sync κ = search (sendable, crosses, name_sync, expr_sync, item_sync) depth 60 fits 10000
 
 update_sync : (κ : NamedLft) → IsSync (Update.the_row κ)
-update_sync κ = search (sendable, crosses, name_sync, expr_sync) depth 60 fits 10000
+update_sync κ = search (sendable, crosses, name_sync, expr_sync, item_sync) depth 60 fits 10000
 
 delete_sync : (κ : NamedLft) → IsSync (Delete.the_row κ)
-delete_sync κ = search (sendable, crosses, expr_sync) depth 60 fits 10000
+delete_sync κ = search (sendable, crosses, expr_sync, item_sync) depth 60 fits 10000
 
 stmt_sync : (κ : NamedLft) → IsSync (Stmt.the_row κ)
 stmt_sync κ =
@@ -58,11 +58,11 @@ stmt_sync κ =
                 (
                   (search (sendable, crosses) depth 60 fits 10000, tt),
                   (
-                    (search (sendable, crosses, expr_sync) depth 60 fits 10000, tt),
+                    (search (sendable, crosses, expr_sync, item_sync) depth 60 fits 10000, tt),
                     (
-                      (search (sendable, crosses, expr_sync) depth 60 fits 10000, tt),
+                      (search (sendable, crosses, expr_sync, item_sync) depth 60 fits 10000, tt),
                       (
-                        (search (sendable, crosses, expr_sync) depth 60 fits 10000, tt),
+                        (search (sendable, crosses, expr_sync, item_sync) depth 60 fits 10000, tt),
                         (
                           (search (sendable, crosses, expr_sync, item_sync, order_sync, lock_sync) depth 60 fits 10000, tt),
                           tt,

@@ -5,7 +5,7 @@ use Rattle.sql_trees.specs.Trees.{Tree, Trees, none, more, Plus, Minus, Not, Bin
 use Rattle.sql_trees.specs.Statements.{StmtTree, Create, DropTables, Inserts, Updates, Deletes, Selects, CreateTree, InsertTree, UpdateTree, SelectTree}
 use Rattle.sql_trees.specs.Statements.{KeyTree, ItemTree, All, Value, Aggregate, key_name}
 use Rattle.sql_blocks.specs.declared.block.Role.{Role}
-use Rattle.sql_blocks.specs.Parts.{is_session, column_names, fits, set_columns, is_allowed}
+use Rattle.sql_blocks.specs.Parts.{is_session, column_names, fits, set_columns, is_aggregate, is_allowed}
 
 -- ---- expressions
 
@@ -79,11 +79,19 @@ abbrev pub columns_differ : Option (List (List ℕ)) → Bool
 columns_differ None = true
 columns_differ (Some ns) = all_differ ns
 
+-- an item of RETURNING is no aggregate
+abbrev pub returned_kept : ItemTree → Bool
+returned_kept i = not (is_aggregate i) && item_shallow i
+
+abbrev pub returning_kept : Option (List ItemTree) → Bool
+returning_kept None = true
+returning_kept (Some items) = list_all returned_kept items
+
 abbrev pub insert_kept : InsertTree → Bool
-insert_kept i = columns_differ i.columns && (rows_fit (option_map length i.columns) i.rows && list_all (list_all is_shallow) i.rows)
+insert_kept i = columns_differ i.columns && (rows_fit (option_map length i.columns) i.rows && (list_all (list_all is_shallow) i.rows && returning_kept i.returning))
 
 abbrev pub update_kept : UpdateTree → Bool
-update_kept u = all_differ (set_columns u.sets) && (list_all (λ s. is_shallow s.value) u.sets && maybe_shallow u.filter)
+update_kept u = all_differ (set_columns u.sets) && (list_all (λ s. is_shallow s.value) u.sets && (maybe_shallow u.filter && returning_kept u.returning))
 
 abbrev pub select_kept : SelectTree → Bool
 select_kept s = is_allowed s && (list_all item_shallow s.items && (maybe_shallow s.filter && list_all (λ k. is_shallow k.expr) s.order))
@@ -92,7 +100,7 @@ abbrev pub is_kept : StmtTree → Bool
 is_kept (Create c) = table_kept c
 is_kept (Inserts i) = insert_kept i
 is_kept (Updates u) = update_kept u
-is_kept (Deletes d) = maybe_shallow d.filter
+is_kept (Deletes d) = maybe_shallow d.filter && returning_kept d.returning
 is_kept (Selects s) = select_kept s
 is_kept _ = true
 

@@ -195,6 +195,23 @@ impl<'a, 'b> Alike<DropTable<'b>> for DropTable<'a> {
     }
 }
 
+impl<'a, 'b> Alike<Item<'b>> for Item<'a> {
+    ghost Seen = { ItemTree };
+
+    ghost seen = { item_of };
+
+    ghost seen_other = { item_of };
+
+    fn alike(&self, other: &Item<'b>) -> bool {
+        match (self, other) {
+            (Item::All, Item::All) => true,
+            (Item::Expr(expr, name), Item::Expr(of, alias)) => expr.alike(of) && name.alike(alias),
+            (Item::Agg(agg, name), Item::Agg(of, alias)) => agg.alike(of) && name.alike(alias),
+            (Item::All | Item::Expr(..) | Item::Agg(..), _) => false,
+        }
+    }
+}
+
 impl<'a, 'b> Alike<Insert<'b>> for Insert<'a> {
     ghost Seen = { InsertTree };
 
@@ -206,6 +223,8 @@ impl<'a, 'b> Alike<Insert<'b>> for Insert<'a> {
         self.table.alike(&other.table)
             && self.columns.alike(&other.columns)
             && self.rows.alike(&other.rows)
+            && self.do_nothing.alike(&other.do_nothing)
+            && self.returning.alike(&other.returning)
     }
 }
 
@@ -232,6 +251,7 @@ impl<'a, 'b> Alike<Update<'b>> for Update<'a> {
         self.table.alike(&other.table)
             && self.sets.alike(&other.sets)
             && self.filter.alike(&other.filter)
+            && self.returning.alike(&other.returning)
     }
 }
 
@@ -243,24 +263,9 @@ impl<'a, 'b> Alike<Delete<'b>> for Delete<'a> {
     ghost seen_other = { delete_of };
 
     fn alike(&self, other: &Delete<'b>) -> bool {
-        self.table.alike(&other.table) && self.filter.alike(&other.filter)
-    }
-}
-
-impl<'a, 'b> Alike<Item<'b>> for Item<'a> {
-    ghost Seen = { ItemTree };
-
-    ghost seen = { item_of };
-
-    ghost seen_other = { item_of };
-
-    fn alike(&self, other: &Item<'b>) -> bool {
-        match (self, other) {
-            (Item::All, Item::All) => true,
-            (Item::Expr(expr, name), Item::Expr(of, alias)) => expr.alike(of) && name.alike(alias),
-            (Item::Agg(agg, name), Item::Agg(of, alias)) => agg.alike(of) && name.alike(alias),
-            (Item::All | Item::Expr(..) | Item::Agg(..), _) => false,
-        }
+        self.table.alike(&other.table)
+            && self.filter.alike(&other.filter)
+            && self.returning.alike(&other.returning)
     }
 }
 

@@ -287,6 +287,25 @@ pub data LockIs : Tokens → Option Lock → Type 0 where
       Key words.For for_word → StrengthIs strength_part strength → PolicyIs policy_part policy →
       LockIs (for_word ∷ (strength_part ++ policy_part)) (Some (record { strength = strength; policy = policy }))
 
+-- [ON CONFLICT DO NOTHING] (INSERT)
+pub data ConflictIs : Tokens → Bool → Type 0 where
+  fails : ConflictIs [] false
+  does_nothing : (on conflict does nothing : At Token) → Key words.On on → Key words.Conflict conflict → Key words.Do does → Key words.Nothing nothing →
+      ConflictIs (on ∷ conflict ∷ does ∷ nothing ∷ []) true
+
+-- "*" | expression [[AS] output_name]
+pub data AddsReturned (E : Tokens → Tree → Type 0) : List ItemTree → Tokens → List ItemTree → Type 0 where
+  returns_all : (items : List ItemTree) (star : At Token) → Sign signs.Star star → AddsReturned E items (star ∷ []) (items ++ All ∷ [])
+  returns_value : (items : List ItemTree) (expression alias : Tokens) (value : Tree) (name : Option (List ℕ)) →
+      E expression value → AliasIs alias name →
+      AddsReturned E items (expression ++ alias) (items ++ Value value name ∷ [])
+
+-- [RETURNING item {"," item}] (6.4)
+pub data ReturningIs (E : Tokens → Tree → Type 0) : Tokens → Option (List ItemTree) → Type 0 where
+  returns_nothing : ReturningIs E [] None
+  returns : (returning : At Token) (list : Tokens) (items : List ItemTree) →
+      Key words.Returning returning → Commas (AddsReturned E) [] list items → ReturningIs E (returning ∷ list) (Some items)
+
 -- ---- statements
 
 pub data Spells (E : Tokens → Tree → Type 0) : Tokens → StmtTree → Type 0 where
@@ -323,19 +342,22 @@ pub data Spells (E : Tokens → Tree → Type 0) : Tokens → StmtTree → Type 
   drop_if : (drop_word table if_word exists : At Token) (list : Tokens) (names : List (List ℕ)) →
       Key words.Drop drop_word → Key words.Table table → Key words.If if_word → Key words.Exists exists → Commas AddsName [] list names →
       Spells E (drop_word ∷ table ∷ if_word ∷ exists ∷ list) (DropTables (record { if_exists = true; names = names }))
-  -- INSERT INTO table_name ["(" column_name {"," column_name} ")"] VALUES row {"," row}
-  insert : (insert_word into token values : At Token) (table : List ℕ) (listed list : Tokens) (columns : Option (List (List ℕ))) (rows : Rows) →
+  -- INSERT INTO table_name ["(" column_name {"," column_name} ")"] VALUES row {"," row} [ON CONFLICT DO NOTHING] [RETURNING item {"," item}]
+  insert : (insert_word into token values : At Token) (table : List ℕ) (listed list conflict_part returning_part : Tokens) (columns : Option (List (List ℕ))) (rows : Rows)
+      (do_nothing : Bool) (returning : Option (List ItemTree)) →
       Key words.Insert insert_word → Key words.Into into → Names table token → ColumnsAre listed columns → Key words.Values values →
-      Commas (AddsRow E) (no_rows columns) list rows →
-      Spells E (insert_word ∷ into ∷ token ∷ (listed ++ values ∷ list)) (Inserts (record { table = table; columns = columns; rows = rows.rows }))
-  -- UPDATE table_name SET column_name "=" expression {"," column_name "=" expression} [WHERE condition]
-  update : (update_word token set_word : At Token) (table : List ℕ) (list where_part : Tokens) (sets : List SetTree) (filter : Option Tree) →
-      Key words.Update update_word → Names table token → Key words.Set set_word → Commas (AddsSet E) [] list sets → WhereIs E where_part filter →
-      Spells E (update_word ∷ token ∷ set_word ∷ (list ++ where_part)) (Updates (record { table = table; sets = sets; filter = filter }))
-  -- DELETE FROM table_name [WHERE condition]
-  delete : (delete_word from token : At Token) (table : List ℕ) (where_part : Tokens) (filter : Option Tree) →
-      Key words.Delete delete_word → Key words.From from → Names table token → WhereIs E where_part filter →
-      Spells E (delete_word ∷ from ∷ token ∷ where_part) (Deletes (record { table = table; filter = filter }))
+      Commas (AddsRow E) (no_rows columns) list rows → ConflictIs conflict_part do_nothing → ReturningIs E returning_part returning →
+      Spells E (insert_word ∷ into ∷ token ∷ (listed ++ values ∷ (list ++ (conflict_part ++ returning_part))))
+      (Inserts (record { table = table; columns = columns; rows = rows.rows; do_nothing = do_nothing; returning = returning }))
+  -- UPDATE table_name SET column_name "=" expression {"," column_name "=" expression} [WHERE condition] [RETURNING item {"," item}]
+  update : (update_word token set_word : At Token) (table : List ℕ) (list where_part returning_part : Tokens) (sets : List SetTree) (filter : Option Tree)
+      (returning : Option (List ItemTree)) →
+      Key words.Update update_word → Names table token → Key words.Set set_word → Commas (AddsSet E) [] list sets → WhereIs E where_part filter → ReturningIs E returning_part returning →
+      Spells E (update_word ∷ token ∷ set_word ∷ (list ++ (where_part ++ returning_part))) (Updates (record { table = table; sets = sets; filter = filter; returning = returning }))
+  -- DELETE FROM table_name [WHERE condition] [RETURNING item {"," item}]
+  delete : (delete_word from token : At Token) (table : List ℕ) (where_part returning_part : Tokens) (filter : Option Tree) (returning : Option (List ItemTree)) →
+      Key words.Delete delete_word → Key words.From from → Names table token → WhereIs E where_part filter → ReturningIs E returning_part returning →
+      Spells E (delete_word ∷ from ∷ token ∷ (where_part ++ returning_part)) (Deletes (record { table = table; filter = filter; returning = returning }))
   -- SELECT item {"," item} [FROM table_name] [WHERE condition] [ORDER BY sort_key {"," sort_key}] [FOR strength [NOWAIT | SKIP LOCKED]]
   select : (select_word : At Token) (list from_part where_part order_part lock_part : Tokens)
       (items : List ItemTree) (table : Option (List ℕ)) (filter : Option Tree) (order : List OrderTree) (lock : Option Lock) →

@@ -18,13 +18,9 @@ use Rattle.sql_expressions.specs.Readers.{is_sign, is_word, Reader, gives, made,
 use Rattle.sql_expressions.specs.Reading.{agg_kind}
 use Rattle.sql_blocks.specs.Parts.{is_allowed}
 use Rattle.sql_parser.specs.Readers.{maybe, list_of, one_of, tree_at, whole}
-use Rattle.sql_parser.specs.Changes.{filter_at}
+use Rattle.sql_parser.specs.Changes.{alias_at, filter_at}
 
 module _ (last : ℕ) where
-  -- the name given to an item, with or without AS
-  unfoldable pub alias_at : Reader (Option (List ℕ))
-  alias_at = either (is_word words.As) (made (λ n. Some n) (name_at last)) (by_first named (λ n. gives (Some n)) (gives None))
-
   -- an aggregate behind its open parenthesis: COUNT may have a star there
   unfoldable pub call_at : AggKind → Reader AggTree
   call_at aggs.Count = closed last (λ a. a) (either (is_sign signs.Star) (gives CountRows) (made (Of aggs.Count) (tree_at last)))
@@ -33,9 +29,9 @@ module _ (last : ℕ) where
   -- an item of a SELECT: a star, an aggregate or an expression
   unfoldable pub item_at : Reader ItemTree
   item_at ts =
-      let value : Reader ItemTree = tree_at last >>= λ e. made (Value e) alias_at in
+      let value : Reader ItemTree = tree_at last >>= λ e. made (Value e) (alias_at last) in
       either (is_sign signs.Star) (gives All) (by_first agg_kind
-      (λ k. either (is_sign signs.Open) (call_at k >>= λ a. made (Aggregate a) alias_at) (λ us. value ts)) value) ts
+      (λ k. either (is_sign signs.Open) (call_at k >>= λ a. made (Aggregate a) (alias_at last)) (λ us. value ts)) value) ts
 
   -- a key of ORDER BY: without NULLS FIRST or LAST, NULL is sorted as the greatest value
   unfoldable pub sort_key_at : Reader OrderTree

@@ -50,10 +50,19 @@ pub record DropTree : Type 0 where
   pub if_exists : Bool
   pub names : List (List ℕ)
 
+-- an item of a SELECT or of RETURNING, with the name given to it
+pub data ItemTree : Type 0 where
+  All : ItemTree
+  Value : Tree → Option (List ℕ) → ItemTree
+  Aggregate : AggTree → Option (List ℕ) → ItemTree
+
+-- do_nothing says ON CONFLICT DO NOTHING
 pub record InsertTree : Type 0 where
   pub table : List ℕ
   pub columns : Option (List (List ℕ))
   pub rows : List (List Tree)
+  pub do_nothing : Bool
+  pub returning : Option (List ItemTree)
 
 pub record SetTree : Type 0 where
   pub column : List ℕ
@@ -63,16 +72,12 @@ pub record UpdateTree : Type 0 where
   pub table : List ℕ
   pub sets : List SetTree
   pub filter : Option Tree
+  pub returning : Option (List ItemTree)
 
 pub record DeleteTree : Type 0 where
   pub table : List ℕ
   pub filter : Option Tree
-
--- an item of a SELECT, with the name given to it
-pub data ItemTree : Type 0 where
-  All : ItemTree
-  Value : Tree → Option (List ℕ) → ItemTree
-  Aggregate : AggTree → Option (List ℕ) → ItemTree
+  pub returning : Option (List ItemTree)
 
 pub record OrderTree : Type 0 where
   pub expr : Tree
@@ -117,22 +122,31 @@ names_of ns = map name_of ns.items
 abbrev pub exprs_of : Vec Expr → List Tree
 exprs_of es = map tree_of es.items
 
+abbrev pub item_of : Item → ItemTree
+item_of item.All = All
+item_of (item.Expr e alias) = Value (tree_of e) (option_map name_of alias)
+item_of (item.Agg a alias) = Aggregate (agg_of a) (option_map name_of alias)
+
+abbrev pub items_of : Vec Item → List ItemTree
+items_of is = map item_of is.items
+
 abbrev pub insert_of : Insert → InsertTree
-insert_of i = record { table = name_of i.table; columns = option_map names_of i.columns; rows = map exprs_of i.rows.items }
+insert_of i = record {
+  table = name_of i.table;
+  columns = option_map names_of i.columns;
+  rows = map exprs_of i.rows.items;
+  do_nothing = i.do_nothing;
+  returning = option_map items_of i.returning;
+}
 
 abbrev pub set_of : Name × Expr → SetTree
 set_of s = record { column = name_of s.0; value = tree_of s.1 }
 
 abbrev pub update_of : Update → UpdateTree
-update_of u = record { table = name_of u.table; sets = map set_of u.sets.items; filter = option_map tree_of u.filter }
+update_of u = record { table = name_of u.table; sets = map set_of u.sets.items; filter = option_map tree_of u.filter; returning = option_map items_of u.returning }
 
 abbrev pub delete_of : Delete → DeleteTree
-delete_of d = record { table = name_of d.table; filter = option_map tree_of d.filter }
-
-abbrev pub item_of : Item → ItemTree
-item_of item.All = All
-item_of (item.Expr e alias) = Value (tree_of e) (option_map name_of alias)
-item_of (item.Agg a alias) = Aggregate (agg_of a) (option_map name_of alias)
+delete_of d = record { table = name_of d.table; filter = option_map tree_of d.filter; returning = option_map items_of d.returning }
 
 abbrev pub order_of : OrderKey → OrderTree
 order_of k = record { expr = tree_of k.expr; dir = k.dir }

@@ -40,12 +40,24 @@ pub struct DropTable<'a> {
     pub names: Vec<Name<'a>>,
 }
 
+/// An item of a SELECT or of RETURNING, with the name given to it. RETURNING has no aggregates.
+#[derive(Drop)]
+pub enum Item<'a> {
+    /// `*`
+    All,
+    Expr(Expr<'a>, Option<Name<'a>>),
+    Agg(Agg<'a>, Option<Name<'a>>),
+}
+
 /// INSERT. Without a list of columns the values go to the first columns of the table.
 #[derive(Drop)]
 pub struct Insert<'a> {
     pub table: Name<'a>,
     pub columns: Option<Vec<Name<'a>>>,
     pub rows: Vec<Vec<Expr<'a>>>,
+    /// ON CONFLICT DO NOTHING: a row is passed over where another one has its key.
+    pub do_nothing: bool,
+    pub returning: Option<Vec<Item<'a>>>,
 }
 
 #[derive(Drop)]
@@ -53,21 +65,14 @@ pub struct Update<'a> {
     pub table: Name<'a>,
     pub sets: Vec<(Name<'a>, Expr<'a>)>,
     pub filter: Option<Expr<'a>>,
+    pub returning: Option<Vec<Item<'a>>>,
 }
 
 #[derive(Drop)]
 pub struct Delete<'a> {
     pub table: Name<'a>,
     pub filter: Option<Expr<'a>>,
-}
-
-/// An item of a SELECT, with the name given to it.
-#[derive(Drop)]
-pub enum Item<'a> {
-    /// `*`
-    All,
-    Expr(Expr<'a>, Option<Name<'a>>),
-    Agg(Agg<'a>, Option<Name<'a>>),
+    pub returning: Option<Vec<Item<'a>>>,
 }
 
 #[derive(Drop)]

@@ -30,9 +30,11 @@ pub enum Word {
     Is,
     Not,
     Null,
+    On,
     Or,
     Order,
     Primary,
+    Returning,
     Select,
     Table,
     True,
@@ -45,9 +47,11 @@ pub enum Word {
     By,
     Commit,
     Committed,
+    Conflict,
     Count,
     DeadlockTimeout,
     Delete,
+    Do,
     Drop,
     Exists,
     First,
@@ -64,6 +68,7 @@ pub enum Word {
     Min,
     No,
     NoWait,
+    Nothing,
     Nulls,
     Read,
     Repeatable,
@@ -84,7 +89,7 @@ pub enum Word {
     Work,
 }
 
-const KEYWORDS: [(&str, Word); 128] = [
+const KEYWORDS: [(&str, Word); 131] = [
     ("begin", Word::Begin),
     ("start", Word::Start),
     ("commit", Word::Commit),
@@ -143,6 +148,11 @@ const KEYWORDS: [(&str, Word); 128] = [
     ("nowait", Word::NoWait),
     ("skip", Word::Skip),
     ("locked", Word::Locked),
+    ("on", Word::On),
+    ("conflict", Word::Conflict),
+    ("do", Word::Do),
+    ("nothing", Word::Nothing),
+    ("returning", Word::Returning),
     ("and", Word::And),
     ("or", Word::Or),
     ("not", Word::Not),
@@ -185,10 +195,8 @@ const KEYWORDS: [(&str, Word); 128] = [
     ("natural", Word::Excluded),
     ("notnull", Word::Excluded),
     ("offset", Word::Excluded),
-    ("on", Word::Excluded),
     ("outer", Word::Excluded),
     ("references", Word::Excluded),
-    ("returning", Word::Excluded),
     ("right", Word::Excluded),
     ("similar", Word::Excluded),
     ("then", Word::Excluded),
@@ -270,9 +278,11 @@ impl Word {
                 | Word::Is
                 | Word::Not
                 | Word::Null
+                | Word::On
                 | Word::Or
                 | Word::Order
                 | Word::Primary
+                | Word::Returning
                 | Word::Select
                 | Word::Table
                 | Word::True
@@ -288,7 +298,13 @@ impl Word {
     {
         matches!(
             self,
-            Word::Excluded | Word::LeftOut | Word::Drop | Word::Read | Word::Select
+            Word::Excluded
+                | Word::LeftOut
+                | Word::Drop
+                | Word::On
+                | Word::Read
+                | Word::Returning
+                | Word::Select
         )
     }
 

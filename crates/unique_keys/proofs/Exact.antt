@@ -1,6 +1,7 @@
 -- What an index that is up to date finds is what the log says.
 use Rattle.std.proofs.Common.{◌≡◌, refl, sym, ◌∙◌, ap, subst, Bool, true, false, not, ◌||◌, ◌&&◌, ◌==◌, ℕ, List, map, filter}
-use Rattle.std.specs.Prelude.{Option, Some, None}
+use mathlib.Core.Path.{fun_ext}
+use Rattle.std.specs.Prelude.{Option, Some, None, find, option_and_then}
 use Rattle.sql_values.specs.declared.value.Value.{Value}
 use Rattle.row_versions.specs.declared.names.TxId.{TxId}
 use Rattle.row_versions.specs.declared.names.RowId.{RowId}
@@ -8,16 +9,17 @@ use Rattle.row_versions.specs.declared.names.TableId.{TableId}
 use Rattle.row_versions.specs.declared.write.Fate.{Fate}
 use Rattle.row_versions.specs.declared.write.Fate.TheVariants.{Open, RolledBack, Committed}
 use Rattle.row_versions.specs.Log.{Content, IsOpen, fate_of, has_committed, is_open, is_open_fate}
+use Rattle.row_versions.specs.Newest.{newest_of}
 use Rattle.row_versions.specs.Inner.Searching.{is_committed}
 use Rattle.unique_keys.specs.declared.noted.Noted.{Noted}
 use Rattle.row_versions.specs.Members.{same_tx}
 use Rattle.unique_keys.specs.Keys.{has_key}
 use Rattle.unique_keys.specs.Writes.{writes, stands, IsUpToDate}
-use Rattle.unique_keys.specs.Inner.Finding.{version_has, is_committed_version, committed_has, own_has, is_in_way, blockers_among, counts_for, is_version_for, is_another, newest_has, takes, is_taken_among}
-use Rattle.unique_keys.specs.Checks.{key_blockers, is_taken}
-use Rattle.unique_keys.proofs.Filtered.{list_any-filter, filter-filter, last_of-filter}
+use Rattle.unique_keys.specs.Inner.Finding.{version_has, is_committed_version, committed_has, own_has, is_in_way, blockers_among, counts_for, is_version_for, is_another, newest_has, takes, row_noted, taker_among}
+use Rattle.unique_keys.specs.Checks.{key_blockers, taken_by}
+use Rattle.unique_keys.proofs.Filtered.{list_any-filter, find-filter, filter-filter, last_of-filter}
 use Rattle.unique_keys.proofs.Listed.{same_is}
-use Rattle.unique_keys.proofs.Logged.{blockers_are, taken_is}
+use Rattle.unique_keys.proofs.Logged.{blockers_are, taken_is, taker_is}
 
 -- whoever stands and hasn't committed is open
 open_or_committed : (f : Option Fate) → (is_open_fate f || is_committed f) ≡ true → not (is_committed f) ≡ is_open_fate f
@@ -64,15 +66,25 @@ newest_same c tx h columns asked row =
     ap (λ v. version_has columns asked v)
     (last_of-filter (stands c.fates) (is_version_for (has_committed c) row tx) (λ w k. counts_stands c tx h w (and_right (w.row.0 == row.0) (counts_for (has_committed c) tx w) k)) (writes c))
 
+-- where a write takes the key, it stands
+taker_stands : (c : Content) (tx : TxId) → IsOpen c tx → (table : TableId) (except : Option RowId) (asked : List Value) (columns : List ℕ) (w : Noted)
+    → takes (has_committed c) (writes c) table tx except asked columns w ≡ true → stands c.fates w ≡ true
+taker_stands c tx h table except asked columns w k =
+    let counted = counts_for (has_committed c) tx w && has_key columns asked w.values in
+    counts_stands c tx h w (and_left (counts_for (has_committed c) tx w) (has_key columns asked w.values) (and_right (is_another except w.row) counted (and_right (w.table.0 == table.0) (is_another except w.row && counted)
+    (and_left ((w.table.0 == table.0) && (is_another except w.row && counted)) (newest_has (has_committed c) (writes c) columns asked w.row tx) k))))
+
 pub taken_same : (c : Content) (index : List Noted) (tx : TxId) → IsUpToDate index c → IsOpen c tx → (table : TableId) (except : Option RowId) (asked : List Value) (columns : List ℕ)
-    → is_taken_among (has_committed c) index table tx except asked columns ≡ is_taken c table tx except asked columns
+    → option_and_then (λ row. newest_of c row tx) (taker_among (has_committed c) index table tx except asked columns) ≡ taken_by c table tx except asked columns
 taken_same c index tx up h table except asked columns =
-    ap (λ v. is_taken_among (has_committed c) v table tx except asked columns) up
-    ∙ list_any-filter (stands c.fates) (takes (has_committed c) (filter (stands c.fates) (writes c)) table tx except asked columns) (takes (has_committed c) (writes c) table tx except asked columns)
-    (λ w. ap (λ v. ((w.table.0 == table.0) && (is_another except w.row && counts_for (has_committed c) tx w)) && v) (newest_same c tx h columns asked w.row))
-    (λ w k. counts_stands c tx h w (and_right (is_another except w.row) (counts_for (has_committed c) tx w) (and_right (w.table.0 == table.0) (is_another except w.row && counts_for (has_committed c) tx w)
-    (and_left ((w.table.0 == table.0) && (is_another except w.row && counts_for (has_committed c) tx w)) (newest_has (has_committed c) (writes c) columns asked w.row tx) k))))
-    (writes c)
+    let by_stands : Noted → Bool = takes (has_committed c) (filter (stands c.fates) (writes c)) table tx except asked columns in
+    let by_all : Noted → Bool = takes (has_committed c) (writes c) table tx except asked columns in
+    ap (λ o. option_and_then (λ row. newest_of c row tx) o)
+    (ap (λ v. taker_among (has_committed c) v table tx except asked columns) up
+    ∙ ap (λ (test : Noted → Bool). row_noted (find test (filter (stands c.fates) (writes c))))
+    (fun_ext {f = by_stands} {g = by_all} (λ w. ap (λ v. ((w.table.0 == table.0) && (is_another except w.row && (counts_for (has_committed c) tx w && has_key columns asked w.values))) && v) (newest_same c tx h columns asked w.row)))
+    ∙ ap row_noted (find-filter (stands c.fates) by_all (taker_stands c tx h table except asked columns) (writes c))
+    ∙ sym (taker_is c table tx except asked columns))
     ∙ sym (taken_is c table tx except asked columns)
 
 committed_same : (c : Content) (columns : List ℕ) (asked : List Value) (row : RowId)

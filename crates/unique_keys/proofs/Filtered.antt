@@ -17,7 +17,7 @@ list_any-filter s p q same kept (w ∷ ws) = step (s w) (kept w) (list_any-filte
   step true k ih = ap (λ v. v || list_any p (filter s ws)) (same w) ∙ ap (λ v. q w || v) ih
   step false k ih = ih ∙ sym (ap (λ v. v || list_any q ws) (false_test (q w) k))
 
-find-filter : (s p : Noted → Bool) → ((w : Noted) → p w ≡ true → s w ≡ true) → (ws : List Noted) → find p (filter s ws) ≡ find p ws
+pub find-filter : (s p : Noted → Bool) → ((w : Noted) → p w ≡ true → s w ≡ true) → (ws : List Noted) → find p (filter s ws) ≡ find p ws
 find-filter s p kept [] = refl
 find-filter s p kept (w ∷ ws) = step (s w) (kept w) (find-filter s p kept ws) where
   step : (a : Bool) → (p w ≡ true → a ≡ true) → find p (filter s ws) ≡ find p ws → find p (cond a (w ∷ filter s ws) (filter s ws)) ≡ cond (p w) (Some w) (find p ws)

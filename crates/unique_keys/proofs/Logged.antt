@@ -17,8 +17,8 @@ use Rattle.row_versions.proofs.Filtered.{drop_next}
 use Rattle.unique_keys.specs.declared.noted.Noted.{Noted}
 use Rattle.unique_keys.specs.Keys.{has_key}
 use Rattle.unique_keys.specs.Writes.{noted_of, writes}
-use Rattle.unique_keys.specs.Inner.Finding.{version_has, is_committed_version, committed_has, own_has, is_in_way, blockers_among, is_version_for, counts_for, is_another, newest_has, takes, is_taken_among}
-use Rattle.unique_keys.specs.Checks.{committed_values, key_blockers, is_taken}
+use Rattle.unique_keys.specs.Inner.Finding.{version_has, is_committed_version, committed_has, own_has, is_in_way, blockers_among, is_version_for, counts_for, is_another, newest_has, takes, row_noted, taker_among}
+use Rattle.unique_keys.specs.Checks.{committed_values, key_blockers, takes_key, taken_by}
 
 any_noted : (p : Noted → Bool) (log : List Write) → list_any (λ w. p (noted_of w)) log ≡ list_any p (map noted_of log)
 any_noted p [] = refl
@@ -104,15 +104,40 @@ blockers_are c table tx asked columns =
     ap (λ (test : Write → Bool). map (λ (w : Write). w.tx) (filter test c.log)) (fun_ext (stands_in_way c table tx asked columns))
     ∙ owners (is_in_way (has_committed c) (is_open c.fates) (writes c) table columns asked tx) c.log
 
-gives_key : (c : Content) (table : TableId) (tx : TxId) (except : Option RowId) (asked : List Value) (columns : List ℕ) (w : Write)
-    → ((w.table.0 == table.0) && is_another except w.row && (has_committed c w.tx || same_tx w.tx tx) && has_key columns asked (option_and_then (λ (s : Seen). values_at c s.place) (newest_of c w.row tx)))
-    ≡ takes (has_committed c) (writes c) table tx except asked columns (noted_of w)
-gives_key c table tx except asked columns w =
-    ap (λ b. b && has_key columns asked (option_and_then (λ (s : Seen). values_at c s.place) (newest_of c w.row tx))) (and_assoc (w.table.0 == table.0) (is_another except w.row) (has_committed c w.tx || same_tx w.tx tx))
-    ∙ ap (λ b. ((w.table.0 == table.0) && (is_another except w.row && counts_for (has_committed c) tx (noted_of w))) && b) (newest_is c w.row tx columns asked)
+and_three : (a b c d : Bool) → (a && b && c && d) ≡ (a && (b && (c && d)))
+and_three true true c d = refl
+and_three true false c d = refl
+and_three false b c d = refl
 
+takes_as_noted : (c : Content) (table : TableId) (tx : TxId) (except : Option RowId) (asked : List Value) (columns : List ℕ) (w : Write)
+    → takes_key c table tx except asked columns w ≡ takes (has_committed c) (writes c) table tx except asked columns (noted_of w)
+takes_as_noted c table tx except asked columns w =
+    ap (λ b. b && has_key columns asked (option_and_then (λ (s : Seen). values_at c s.place) (newest_of c w.row tx)))
+    (and_three (w.table.0 == table.0) (is_another except w.row) (has_committed c w.tx || same_tx w.tx tx) (has_key columns asked w.values))
+    ∙ ap (λ b. ((w.table.0 == table.0) && (is_another except w.row && (counts_for (has_committed c) tx (noted_of w) && has_key columns asked w.values))) && b) (newest_is c w.row tx columns asked)
+
+-- the row of the first write that passes is that of the first note that passes
+abbrev pub row_written : Option Write → Option RowId
+row_written o = option_map (λ (w : Write). w.row) o
+
+row_of_first : (p : Noted → Bool) (log : List Write) → row_written (find (λ w. p (noted_of w)) log) ≡ row_noted (find p (map noted_of log))
+row_of_first p [] = refl
+row_of_first p (w ∷ log) = step (p (noted_of w)) (row_of_first p log) where
+  step : (b : Bool) → row_written (find (λ v. p (noted_of v)) log) ≡ row_noted (find p (map noted_of log))
+      → row_written (cond b (Some w) (find (λ v. p (noted_of v)) log)) ≡ row_noted (cond b (Some (noted_of w)) (find p (map noted_of log)))
+  step true so = refl
+  step false so = so
+
+pub taker_is : (c : Content) (table : TableId) (tx : TxId) (except : Option RowId) (asked : List Value) (columns : List ℕ)
+    → row_written (find (takes_key c table tx except asked columns) c.log) ≡ taker_among (has_committed c) (writes c) table tx except asked columns
+taker_is c table tx except asked columns =
+    ap (λ (test : Write → Bool). row_written (find test c.log)) (fun_ext (takes_as_noted c table tx except asked columns))
+    ∙ row_of_first (takes (has_committed c) (writes c) table tx except asked columns) c.log
+
+-- the version that has the key is the newest one of that row
 pub taken_is : (c : Content) (table : TableId) (tx : TxId) (except : Option RowId) (asked : List Value) (columns : List ℕ)
-    → is_taken c table tx except asked columns ≡ is_taken_among (has_committed c) (writes c) table tx except asked columns
-taken_is c table tx except asked columns =
-    ap (λ (test : Write → Bool). list_any test c.log) (fun_ext (gives_key c table tx except asked columns))
-    ∙ any_noted (takes (has_committed c) (writes c) table tx except asked columns) c.log
+    → taken_by c table tx except asked columns ≡ option_and_then (λ row. newest_of c row tx) (row_written (find (takes_key c table tx except asked columns) c.log))
+taken_is c table tx except asked columns = by (find (takes_key c table tx except asked columns) c.log) where
+  by : (o : Option Write) → option_and_then (λ (w : Write). newest_of c w.row tx) o ≡ option_and_then (λ row. newest_of c row tx) (row_written o)
+  by None = refl
+  by (Some w) = refl

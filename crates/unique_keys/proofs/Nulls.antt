@@ -1,6 +1,6 @@
 -- A key with a NULL is had by no version.
 use Rattle.std.proofs.Common.{◌≡◌, refl, sym, ◌∙◌, ap, Bool, true, false, cond, not, ◌||◌, ◌&&◌, ◌==◌, ℕ, List, [], ◌∷◌, map, filter}
-use Rattle.std.specs.Prelude.{Option, Some, None, unwrap_or, slice_get}
+use Rattle.std.specs.Prelude.{Option, Some, None, find, unwrap_or, slice_get}
 use Rattle.std.specs.List.{list_any}
 use Rattle.sql_values.specs.declared.value.Value.{Value}
 use Rattle.sql_values.specs.declared.value.Value.TheVariants.{Null, Int, Big, Text, Bool as Boolean}
@@ -12,7 +12,7 @@ use Rattle.unique_keys.specs.declared.noted.Noted.{Noted}
 use Rattle.row_versions.specs.Members.{same_tx}
 use Rattle.unique_keys.specs.Keys.{has_key}
 use Rattle.unique_keys.proofs.Equal.{agree_is}
-use Rattle.unique_keys.specs.Inner.Finding.{are_equal, agree, last_of, version_has, is_committed_version, own_has, is_in_way, blockers_among, counts_for, is_version_for, is_another, takes, is_taken_among}
+use Rattle.unique_keys.specs.Inner.Finding.{are_equal, agree, last_of, version_has, is_committed_version, own_has, is_in_way, blockers_among, counts_for, is_version_for, is_another, row_noted, takes, taker_among}
 use Rattle.unique_keys.specs.Laws.{has_null}
 
 null_is_unequal : (asked other : Option Value) → is_null (unwrap_or asked Null) ≡ true → are_equal asked other ≡ false
@@ -67,9 +67,14 @@ null_blocked_by_none committed active ws table tx asked columns h =
           ∙ ap (λ v. ((w.table.0 == table.0) && (not (same_tx w.tx tx) && active w.tx)) && v) (own_lacks w.row w.tx)
           ∙ and_false ((w.table.0 == table.0) && (not (same_tx w.tx tx) && active w.tx))
 
+find_none : (p : Noted → Bool) → ((w : Noted) → p w ≡ false) → (ws : List Noted) → find p ws ≡ None
+find_none p h [] = refl
+find_none p h (w ∷ ws) = ap (λ v. cond v (Some w) (find p ws)) (h w) ∙ find_none p h ws
+
 pub null_taken_by_none : (committed : TxId → Bool) (ws : List Noted) (table : TableId) (tx : TxId) (except : Option RowId) (asked : List Value) (columns : List ℕ) → has_null columns asked ≡ true
-    → is_taken_among committed ws table tx except asked columns ≡ false
-null_taken_by_none committed ws table tx except asked columns h =
-    any_none (takes committed ws table tx except asked columns)
-    (λ w. ap (λ v. ((w.table.0 == table.0) && (is_another except w.row && counts_for committed tx w)) && v) (version_lacks columns asked h (last_of (is_version_for committed w.row tx) ws))
-    ∙ and_false ((w.table.0 == table.0) && (is_another except w.row && counts_for committed tx w))) ws
+    → taker_among committed ws table tx except asked columns ≡ None
+null_taken_by_none committed ws table tx except asked columns h = ap row_noted (find_none (takes committed ws table tx except asked columns) lacks ws) where
+  lacks : (w : Noted) → takes committed ws table tx except asked columns w ≡ false
+  lacks w =
+      let given = (w.table.0 == table.0) && (is_another except w.row && (counts_for committed tx w && has_key columns asked w.values)) in
+      ap (λ v. given && v) (version_lacks columns asked h (last_of (is_version_for committed w.row tx) ws)) ∙ and_false given

@@ -1,6 +1,6 @@
 -- A search that starts from the writes which have the key finds the same.
-use Rattle.std.proofs.Common.{◌≡◌, refl, sym, ap, subst, Bool, true, false, cond, not, ◌||◌, ◌&&◌, ◌==◌, ℕ, List, [], ◌∷◌, reverse, eqb-true, eq-eqb}
-use Rattle.std.specs.Prelude.{Option, Some, find}
+use Rattle.std.proofs.Common.{◌≡◌, refl, sym, ap, Bool, true, false, cond, not, ◌||◌, ◌&&◌, ◌==◌, ℕ, List, [], ◌∷◌, reverse, eqb-true, eq-eqb}
+use Rattle.std.specs.Prelude.{Some, find}
 use Rattle.std.specs.List.{list_any}
 use mathlib.Core.List.{reverse_aux}
 use Rattle.sql_values.specs.declared.value.Value.{Value}
@@ -10,7 +10,7 @@ use Rattle.row_versions.specs.declared.names.TableId.{TableId}
 use Rattle.unique_keys.specs.declared.noted.Noted.{Noted}
 use Rattle.row_versions.specs.Members.{same_tx}
 use Rattle.unique_keys.specs.Keys.{has_key}
-use Rattle.unique_keys.specs.Inner.Finding.{last_of, version_has, is_committed_version, committed_has, own_has, is_in_way, counts_for, is_version_for, is_another, newest_has, takes, is_taken_among}
+use Rattle.unique_keys.specs.Inner.Finding.{last_of, version_has, is_committed_version, committed_has, own_has, is_in_way}
 
 both : (a b : Bool) → (a && b) ≡ true → (a ≡ true) × (b ≡ true)
 both true b h = (refl, h)
@@ -112,51 +112,3 @@ way_from_key committed active ws table columns asked tx = alike _ _ there back w
       (intro (λ x. (x.row.0 == v.row.0) && is_in_way committed active ws table columns asked tx x) (and (w.row.0 == v.row.0) (is_in_way committed active ws table columns asked tx w) p.1 h))))
       (has_of_row committed ws columns asked w.row w.tx
       (both ((w.table.0 == table.0) && (not (same_tx w.tx tx) && active w.tx)) (committed_has committed ws columns asked w.row || own_has ws columns asked w.row w.tx) h).1))
-
--- a write for the transaction is of the row, in the table
-abbrev pub is_of_row : (TxId → Bool) → TableId → TxId → RowId → Noted → Bool
-is_of_row committed table tx row w = (w.row.0 == row.0) && ((w.table.0 == table.0) && counts_for committed tx w)
-
--- a write for the transaction has the key, of another row, whose newest version has it, and which is in the table
-abbrev pub has_taken : (TxId → Bool) → List Noted → TableId → TxId → Option RowId → List Value → List ℕ → Noted → Bool
-has_taken committed ws table tx except asked columns v =
-    (has_key columns asked v.values && (is_another except v.row && counts_for committed tx v))
-    && (newest_has committed ws columns asked v.row tx && list_any (is_of_row committed table tx v.row) ws)
-
-pub taken_from_key : (committed : TxId → Bool) (ws : List Noted) (table : TableId) (tx : TxId) (except : Option RowId) (asked : List Value) (columns : List ℕ)
-    → list_any (has_taken committed ws table tx except asked columns) ws ≡ is_taken_among committed ws table tx except asked columns
-taken_from_key committed ws table tx except asked columns = alike _ _ there back where
-  there : list_any (has_taken committed ws table tx except asked columns) ws ≡ true → is_taken_among committed ws table tx except asked columns ≡ true
-  there =
-      by_any (has_taken committed ws table tx except asked columns) (is_taken_among committed ws table tx except asked columns) ws
-      (λ v h intro. let p = both (has_key columns asked v.values && (is_another except v.row && counts_for committed tx v)) (newest_has committed ws columns asked v.row tx && list_any (is_of_row committed table tx v.row) ws) h in
-      let q = both (newest_has committed ws columns asked v.row tx) (list_any (is_of_row committed table tx v.row) ws) p.1 in
-      let a : is_another except v.row ≡ true = (both (is_another except v.row) (counts_for committed tx v) (both (has_key columns asked v.values) (is_another except v.row && counts_for committed tx v) p.0).1).0 in
-      by_any (is_of_row committed table tx v.row) (is_taken_among committed ws table tx except asked columns) ws
-      (λ w k more. let r = both (w.row.0 == v.row.0) ((w.table.0 == table.0) && counts_for committed tx w) k in
-      let s = both (w.table.0 == table.0) (counts_for committed tx w) r.1 in
-      let e : v.row ≡ w.row = sym (row_is w.row v.row r.0) in
-      more (takes committed ws table tx except asked columns)
-      (and ((w.table.0 == table.0) && (is_another except w.row && counts_for committed tx w)) (newest_has committed ws columns asked w.row tx)
-      (and (w.table.0 == table.0) (is_another except w.row && counts_for committed tx w) s.0 (and (is_another except w.row) (counts_for committed tx w) (subst (λ row. is_another except row ≡ true) e a) s.1))
-      (subst (λ row. newest_has committed ws columns asked row tx ≡ true) e q.0)))
-      q.1)
-
-  back : is_taken_among committed ws table tx except asked columns ≡ true → list_any (has_taken committed ws table tx except asked columns) ws ≡ true
-  back =
-      by_any (takes committed ws table tx except asked columns) (list_any (has_taken committed ws table tx except asked columns) ws) ws
-      (λ w h intro. let p = both ((w.table.0 == table.0) && (is_another except w.row && counts_for committed tx w)) (newest_has committed ws columns asked w.row tx) h in
-      let q = both (w.table.0 == table.0) (is_another except w.row && counts_for committed tx w) p.0 in
-      let r = both (is_another except w.row) (counts_for committed tx w) q.1 in
-      by_any (λ v. is_version_for committed w.row tx v && has_key columns asked v.values) (list_any (has_taken committed ws table tx except asked columns) ws) ws
-      (λ v k more. let s = both (is_version_for committed w.row tx v) (has_key columns asked v.values) k in
-      let t = both (v.row.0 == w.row.0) (counts_for committed tx v) s.0 in
-      let e : w.row ≡ v.row = sym (row_is v.row w.row t.0) in
-      more (has_taken committed ws table tx except asked columns)
-      (and (has_key columns asked v.values && (is_another except v.row && counts_for committed tx v)) (newest_has committed ws columns asked v.row tx && list_any (is_of_row committed table tx v.row) ws)
-      (and (has_key columns asked v.values) (is_another except v.row && counts_for committed tx v) s.1 (and (is_another except v.row) (counts_for committed tx v) (subst (λ row. is_another except row ≡ true) e r.0) t.1))
-      (and (newest_has committed ws columns asked v.row tx) (list_any (is_of_row committed table tx v.row) ws)
-      (subst (λ row. newest_has committed ws columns asked row tx ≡ true) e p.1)
-      (intro (is_of_row committed table tx v.row) (and (w.row.0 == v.row.0) ((w.table.0 == table.0) && counts_for committed tx w)
-      (eq-eqb w.row.0 v.row.0 (ap (λ (row : RowId). row.0) e)) (and (w.table.0 == table.0) (counts_for committed tx w) q.0 r.1))))))
-      (last_has (is_version_for committed w.row tx) columns asked ws p.1))

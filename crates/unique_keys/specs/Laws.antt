@@ -11,7 +11,7 @@ use Rattle.row_versions.specs.declared.write.Write.{Write}
 use Rattle.row_versions.specs.Log.{Content, IsOpen, fate_of, empty_content, after_begin, after_commit, after_roll_back, after_write}
 use Rattle.unique_keys.specs.declared.noted.Noted.{Noted}
 use Rattle.unique_keys.specs.Writes.{noted_of, notes_without, IsUpToDate}
-use Rattle.unique_keys.specs.Checks.{key_blockers, is_taken, IsFree}
+use Rattle.unique_keys.specs.Checks.{key_blockers, taken_by, IsFree}
 
 -- the row has NULL in some column of the key
 abbrev pub has_null : List ℕ → List Value → Bool
@@ -20,7 +20,7 @@ has_null columns asked = list_any (λ column. is_null (unwrap_or (slice_get aske
 -- a key with a NULL is free, whatever is written (5.5.3)
 abbrev pub NullIsFree : Type 0
 NullIsFree = (c : Content) (table : TableId) (tx : TxId) (except : Option RowId) (asked : List Value) (columns : List ℕ) → has_null columns asked ≡ true
-    → IsFree (key_blockers c table tx asked) (is_taken c table tx except asked) columns
+    → IsFree (key_blockers c table tx asked) (taken_by c table tx except asked) columns
 
 -- each write's transaction has begun
 abbrev pub have_begun : Content → Bool

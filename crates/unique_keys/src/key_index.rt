@@ -6,13 +6,13 @@ ghost use Rattle.unique_keys.specs.Members.{EachOnce};
 ghost use Rattle.row_versions.specs.Members.{is_none_of};
 ghost use Rattle.unique_keys.specs.Keys.{columns_of_key};
 ghost use Rattle.unique_keys.specs.Writes.{IsUpToDate, notes_without};
-ghost use Rattle.unique_keys.specs.Checks.{FindsKeys, FreeBefore, KeyIsHeld, NamesBlockers, key_blockers, is_taken, found_of, key_found};
+ghost use Rattle.unique_keys.specs.Checks.{FindsKeys, FreeBefore, KeyIsHeld, NamesBlockers, key_blockers, taken_by, found_by, found_of, key_found};
 
 use crate::blocking::{blockers, is_blocked};
 use crate::keys::{Check, TableKeys};
 use crate::noted::Noted;
-use crate::taken::is_taken;
-use row_versions::{RowId, TableId, TxId, Versions};
+use crate::taken::taker;
+use row_versions::{RowId, Seen, TableId, TxId, Versions};
 use smallvec::SmallVec;
 use sql_values::{Row, Value};
 use std::alloc::{AllocError, Global};
@@ -38,8 +38,19 @@ impl Model for KeyIndex {
 #[derive(Drop)]
 pub enum Found {
     Free,
-    Taken,
+    /// In this version.
+    Taken(Seen),
     Held(SmallVec<TxId, 4>),
+}
+
+/// What is found of a key that nobody holds, and that this version has, if any.
+fn found_in(version: Option<Seen>) -> Found
+    ensures { found_of result ≡ found_by [] version }
+{
+    match version {
+        Some(by) => Found::Taken(by),
+        None => Found::Free,
+    }
 }
 
 impl KeyIndex {
@@ -155,10 +166,10 @@ impl KeyIndex {
             return Ok(Found::Held(by));
         }
         let notes = self.noted.as_slice();
-        if is_taken(store, notes, table, columns, asked, tx, except) {
-            return Ok(Found::Taken);
+        match taker(store, notes, table, columns, asked, tx, except) {
+            Some(row) => Ok(found_in(store.newest(row, tx))),
+            None => Ok(Found::Free),
         }
-        Ok(Found::Free)
     }
 
     /// What is found of a row's keys, where the transaction is about to write these values in place of that row, or as a new one.
@@ -177,7 +188,7 @@ impl KeyIndex {
             → FindsKeys (V.content store.now) keys.now values.now tx except check) }
         ensures memory { OnErr result (IsUpToDate self.now (V.content store.now) → IsOpen (V.content store.now) tx
             → (key : ℕ) × (key < length keys.now.keys)
-            × FreeBefore (key_blockers (V.content store.now) keys.now.table tx values.now) (is_taken (V.content store.now) keys.now.table tx except values.now) keys.now key
+            × FreeBefore (key_blockers (V.content store.now) keys.now.table tx values.now) (taken_by (V.content store.now) keys.now.table tx except values.now) keys.now key
             × (key_found (V.content store.now) keys.now.table tx except values.now (columns_of_key keys.now key) ≡ KeyIsHeld)) }
     {
         let all = keys.keys.as_slice();
@@ -185,7 +196,12 @@ impl KeyIndex {
             let columns = columns_at(keys, key);
             match self.find(store, keys.table, columns, values.values(), tx, except)? {
                 Found::Free => {}
-                Found::Taken => return Ok(Check::Taken { key: key as u32 }),
+                Found::Taken(by) => {
+                    return Ok(Check::Taken {
+                        key: key as u32,
+                        by,
+                    });
+                }
                 Found::Held(by) => {
                     return Ok(Check::Held {
                         key: key as u32,

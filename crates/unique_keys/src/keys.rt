@@ -1,5 +1,5 @@
 //! The keys of a table, and what is found of them.
-use row_versions::{TableId, TxId};
+use row_versions::{Seen, TableId, TxId};
 use smallvec::SmallVec;
 use std::marker::Model;
 
@@ -23,8 +23,8 @@ impl Model for TableKeys {
 #[derive(Drop)]
 pub enum Check {
     Free,
-    /// Another row has the key.
-    Taken { key: u32 },
+    /// Another row has the key, in this version.
+    Taken { key: u32, by: Seen },
     /// Whether the key is taken stands open until these transactions have ended.
     Held { key: u32, by: SmallVec<TxId, 4> },
 }

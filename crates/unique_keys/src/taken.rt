@@ -1,9 +1,7 @@
 //! Which row has a key.
-ghost use Rattle.std.specs.Prelude.{◌≡◌, ◌==◌, ◌&&◌};
-ghost use Rattle.std.specs.List.{list_any};
+ghost use Rattle.std.specs.Prelude.{◌≡◌};
 ghost use Rattle.row_versions.specs.Log.{has_committed};
-ghost use Rattle.unique_keys.specs.Keys.{has_key};
-ghost use Rattle.unique_keys.specs.Inner.Finding.{counts_for, is_another, newest_has, is_taken_among};
+ghost use Rattle.unique_keys.specs.Inner.Finding.{counts_for, is_another, newest_has, taker_among, takes};
 
 use crate::noted::{Noted, has_key, version_has};
 use row_versions::{RowId, TableId, TxId, Versions};
@@ -43,31 +41,8 @@ fn is_another(except: Option<RowId>, row: RowId) -> bool
     }
 }
 
-/// Whether the row is in the table, by a write that counts for the transaction.
-fn is_row_in<V: Versions>(store: &V, notes: &[Noted], table: TableId, tx: TxId, row: RowId) -> bool
-    ensures { result ≡ list_any (λ w. (w.row.0 == row.0) && ((w.table.0 == table.0) && counts_for (has_committed (V.content store.now)) tx w)) notes.now }
-{
-    notes.iter().any(|note| note.row.0 == row.0
-        && note.table.0 == table.0
-        && counts_for(store, tx, note))
-}
-
-/// Whether the write gives another row the key, as far as the transaction knows.
-fn gives_key<V: Versions>(
-    store: &V,
-    columns: &[u32],
-    asked: &[Value],
-    tx: TxId,
-    except: Option<RowId>,
-    note: &Noted,
-) -> bool
-    ensures { result ≡ (has_key columns.now asked.now note.now.values && (is_another except note.now.row && counts_for (has_committed (V.content store.now)) tx note.now)) }
-{
-    has_key(columns, asked, note) && is_another(except, note.row) && counts_for(store, tx, note)
-}
-
-/// Whether some other row of the table has the key. Only rows are searched of which a write gives it.
-pub fn is_taken<V: Versions>(
+/// Whether the write gave the key to another row of the table, which has it still.
+fn takes<V: Versions>(
     store: &V,
     notes: &[Noted],
     table: TableId,
@@ -75,10 +50,31 @@ pub fn is_taken<V: Versions>(
     asked: &[Value],
     tx: TxId,
     except: Option<RowId>,
+    note: &Noted,
 ) -> bool
-    ensures { result ≡ is_taken_among (has_committed (V.content store.now)) notes.now table tx except asked.now columns.now }
+    ensures { result ≡ takes (has_committed (V.content store.now)) notes.now table tx except asked.now columns.now note.now }
 {
-    notes.iter().any(|note| gives_key(store, columns, asked, tx, except, note)
+    note.table.0 == table.0
+        && is_another(except, note.row)
+        && counts_for(store, tx, note)
+        && has_key(columns, asked, note)
         && newest_has(store, notes, columns, asked, note.row, tx)
-        && is_row_in(store, notes, table, tx, note.row))
+}
+
+/// The row of the table that has the key, the one that was first given it.
+pub fn taker<V: Versions>(
+    store: &V,
+    notes: &[Noted],
+    table: TableId,
+    columns: &[u32],
+    asked: &[Value],
+    tx: TxId,
+    except: Option<RowId>,
+) -> Option<RowId>
+    ensures { result ≡ taker_among (has_committed (V.content store.now)) notes.now table tx except asked.now columns.now }
+{
+    notes
+        .iter()
+        .find(|note| takes(store, notes, table, columns, asked, tx, except, note))
+        .map(|note| note.row)
 }

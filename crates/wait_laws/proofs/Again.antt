@@ -5,18 +5,17 @@ use Rattle.sql_values.specs.declared.value.Value.{Value}
 use Rattle.sql_values.specs.declared.fault.ValueFault.{ValueFault}
 use Rattle.sql_trees.specs.Statements.{StmtTree, Inserts, Updates, Deletes, Selects}
 use Rattle.session_machine.specs.declared.session.Transaction.TheVariants.{Open}
-use Rattle.query_results.specs.Queries.{columns_assigned, titles_of}
+use Rattle.query_results.specs.Queries.{columns_assigned}
 use Rattle.query_results.specs.Updates.{columns_set}
 use Rattle.row_versions.specs.Log.{Content}
 use Rattle.session_machine.specs.declared.session.OpenTransaction.{OpenTransaction}
 use Rattle.session_machine.specs.declared.session.Progress.{Progress}
 use Rattle.session_machine.specs.declared.reply.Outcome.{Outcome}
-use Rattle.session_machine.specs.declared.reply.Outcome.TheVariants.{Rows}
 use Rattle.session_machine.specs.Tables.{Database}
 use Rattle.session_machine.specs.Statements.{Surroundings, Effect}
 use Rattle.session_machine.specs.Walks.{Stop, Walk, Blocked, Fails}
 use Rattle.session_machine.specs.Rows.{columns_in}
-use Rattle.session_machine.specs.Inner.Statements.{walked_from, insert_one, update_one, delete_one, lock_one, comes_to, after_walk, done, assigned_to, run_on, Visit, walked}
+use Rattle.session_machine.specs.Inner.Statements.{walked_from, insert_one, update_one, delete_one, lock_one, comes_to, after_walk, answer, put_insert, assigned_to, run_on, Visit, walked}
 use Rattle.session_machine.specs.Running.{run_stmt}
 use Rattle.session_machine.proofs.ByKind.{runs_by_kind}
 use Rattle.session_machine.specs.Targets.{passing_targets, taken_targets, going_on}
@@ -59,18 +58,17 @@ statements_go_on_in_their_view db t around p q =
     let w = going_on t around p in
     record {
       inserts = λ i h.
-          let at = insert_one w i.table (assigned_to (columns_assigned (columns_in db w) i.columns)) in
-          stands db.content t around p q done (walked at db p.place p.rows (drop p.place i.rows)) (walked_on at db p.place p.rows (drop p.place i.rows)) (by (Inserts i) h);
+          let at = insert_one w (put_insert i) (assigned_to (columns_assigned (columns_in db w) i.columns)) in
+          stands db.content t around p q (answer (columns_in db w) i.returning) (walked at db p.place p.rows (drop p.place i.rows)) (walked_on at db p.place p.rows (drop p.place i.rows)) (by (Inserts i) h);
       updates = λ u h.
           let at = update_one w u (assigned_to (columns_set (columns_in db w) u.sets)) in
           let targets = passing_targets db w u.filter in
-          stands db.content t around p q done (walked_from at db p.place p.rows targets) (walked_from_on at db p.place p.rows targets) (by (Updates u) h);
+          stands db.content t around p q (answer (columns_in db w) u.returning) (walked_from at db p.place p.rows targets) (walked_from_on at db p.place p.rows targets) (by (Updates u) h);
       deletes = λ d h.
           let targets = passing_targets db w d.filter in
-          stands db.content t around p q done (walked_from (delete_one w d) db p.place p.rows targets) (walked_from_on (delete_one w d) db p.place p.rows targets) (by (Deletes d) h);
+          stands db.content t around p q (answer (columns_in db w) d.returning) (walked_from (delete_one w d) db p.place p.rows targets) (walked_from_on (delete_one w d) db p.place p.rows targets) (by (Deletes d) h);
       locks = λ s l is h.
-          let shown : List (List Value) → Outcome = λ y. Rows (record { titles = titles_of (columns_in db w) s.items; rows = y }) in
           let targets = taken_targets db w s in
-          stands db.content t around p q shown (walked_from (lock_one w s l) db p.place p.rows targets) (walked_from_on (lock_one w s l) db p.place p.rows targets)
+          stands db.content t around p q (answer (columns_in db w) (Some s.items)) (walked_from (lock_one w s l) db p.place p.rows targets) (walked_from_on (lock_one w s l) db p.place p.rows targets)
           (subst (λ o. (lock_again db t around s p o).statement ≡ Some q) is (by (Selects s) h));
     }

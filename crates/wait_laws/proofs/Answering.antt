@@ -6,12 +6,12 @@ use Rattle.std.specs.Option.{option_map_or, option_or}
 use Rattle.sql_trees.specs.declared.stmt.Level.{Level}
 use Rattle.sql_trees.specs.declared.stmt.Level.TheVariants.{ReadCommitted}
 use Rattle.sql_trees.specs.declared.stmt.Lock.{Lock}
-use Rattle.sql_trees.specs.Statements.{ColumnTree, StmtTree, InsertTree, UpdateTree, Begin, Commit, Rollback, SetTransaction, SetDeadlockTimeout, Create, DropTables, Inserts, Updates, Deletes, Selects}
+use Rattle.sql_trees.specs.Statements.{ColumnTree, ItemTree, StmtTree, InsertTree, UpdateTree, Begin, Commit, Rollback, SetTransaction, SetDeadlockTimeout, Create, DropTables, Inserts, Updates, Deletes, Selects}
 use Rattle.sql_values.specs.declared.value.Value.{Value}
 use Rattle.sql_values.specs.declared.fault.ValueFault.{ValueFault}
 use Rattle.sql_values.specs.declared.fault.ValueFault.TheVariants.{NoColumn}
 use Rattle.query_results.specs.Results.{Results}
-use Rattle.query_results.specs.Queries.{AssignedColumn, cols_of, titles_of, result_of, columns_assigned, taken}
+use Rattle.query_results.specs.Queries.{AssignedColumn, cols_of, titles_of, result_of, returned_exprs, columns_assigned, taken, undefined_among}
 use Rattle.query_results.specs.Updates.{columns_set, update_exprs}
 use Rattle.row_versions.specs.declared.names.TxId.{TxId}
 use Rattle.row_versions.specs.Log.{after_begin}
@@ -36,7 +36,7 @@ use Rattle.session_machine.specs.Views.{rows_shown}
 use Rattle.session_machine.specs.Statements.{Surroundings, Effect, fails, answers, turns, drop_tables, level_set}
 use Rattle.session_machine.specs.Walks.{Stop, Walk, Blocked, Fails}
 use Rattle.session_machine.specs.Rows.{Work, columns_in, over_targets, table_named, walk_of}
-use Rattle.session_machine.specs.Running.{undefined_in, fault_in, leads_to, at_once, begin_at, run_in, run_stmt}
+use Rattle.session_machine.specs.Running.{undefined_in, fault_in, items_answered, leads_to, at_once, begin_at, run_in, run_stmt}
 use Rattle.session_machine.specs.Targets.{going_on}
 use Rattle.session_machine.specs.Machine.{Machine, Blocks, Next, next, stmts_of, after_stmt, closed_at_end, is_failed, leaves}
 use Rattle.session_machine.specs.Inner.Steps.{launch_of, step_of, leave_of}
@@ -76,10 +76,14 @@ wrong_not columns stmt fault h e = never (fault_in columns stmt) (of_kind stmt) 
 
   inserted : (i : InsertTree) (r : Result (List AssignedColumn) (List ℕ)) → Not (elim r [
     | Err column ↦ Some (NoColumnOf column i.table)
-    | Ok to ↦ option_or (undefined_in [] (flat_map (λ row. row) i.rows)) (if list_any (λ row. nat_lt (length to) (length row)) i.rows then Some TooManyValues else None)
+    | Ok to ↦
+        option_or (undefined_in [] (flat_map (λ row. row) i.rows)) (option_or (undefined_in (cols_of columns) (returned_exprs i.returning))
+        (if list_any (λ row. nat_lt (length to) (length row)) i.rows then Some TooManyValues else None))
   ])
   inserted i (Err column) k = cc
-  inserted i (Ok to) k = else_so _ _ (many _) k
+  inserted i (Ok to) k =
+      else_so (undefined_among [] (flat_map (λ row. row) i.rows)) _
+      (else_so (undefined_among (cols_of columns) (returned_exprs i.returning)) _ (many (list_any (λ row. nat_lt (length to) (length row)) i.rows))) k
 
   updated : (u : UpdateTree) (r : Result (List AssignedColumn) (List ℕ)) → Not (elim r [ Err column ↦ Some (NoColumnOf column u.table) | Ok to ↦ undefined_in (cols_of columns) (update_exprs u) ])
   updated u (Err column) k = cc
@@ -155,21 +159,12 @@ module _ (S : Option Stop → Type 0) (C : TxId → List Session → Database �
   -- what a walk leads to
   leads : (db : Database) (w : Work) (stmt : StmtTree) (walk : Walk) → R (leads_to db w stmt walk).outcome ↔ S walk.stop
   leads db w stmt walk = by walk.stop where
-    ends : (s : StmtTree) → R (elim s [ Selects x ↦ Rows (record { titles = titles_of (columns_in db w) x.items; rows = walk.rows }) | other ↦ Done ]) → ⊥
-    ends (Selects x) = shows.rows _
-    ends (Inserts i) = shows.done
-    ends (Updates u) = shows.done
-    ends (Deletes d) = shows.done
-    ends (Begin level) = shows.done
-    ends Commit = shows.done
-    ends Rollback = shows.done
-    ends (SetTransaction level) = shows.done
-    ends SetDeadlockTimeout = shows.done
-    ends (Create c) = shows.done
-    ends (DropTables d) = shows.done
+    ends : (o : Option (List ItemTree)) → R (option_map_or (λ items. Rows (record { titles = titles_of (columns_in db w) items; rows = walk.rows })) o Done) → ⊥
+    ends None = shows.done
+    ends (Some items) = shows.rows _
 
     by : (o : Option Stop) → R (leads_to db w stmt (record walk { stop = o })).outcome ↔ S o
-    by None = neither (ends stmt) tells.none
+    by None = neither (ends (items_answered stmt)) tells.none
     by (Some (Blocked r)) = shows.waits r
     by (Some (Fails f)) = shows.fault f
 

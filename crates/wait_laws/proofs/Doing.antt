@@ -11,11 +11,11 @@ use Rattle.sql_trees.specs.declared.stmt.Policy.TheVariants.{Wait, NoWait, SkipL
 use Rattle.sql_trees.specs.declared.stmt.Strength.{Strength}
 use Rattle.sql_trees.specs.declared.stmt.Strength.TheVariants.{NoKeyUpdate, Update}
 use Rattle.sql_trees.specs.Trees.{Tree}
-use Rattle.sql_trees.specs.Statements.{StmtTree, KeyTree, CreateTree, InsertTree, UpdateTree, DeleteTree, SelectTree, Begin, Commit, Rollback, SetTransaction, SetDeadlockTimeout}
+use Rattle.sql_trees.specs.Statements.{StmtTree, ItemTree, KeyTree, CreateTree, InsertTree, UpdateTree, DeleteTree, SelectTree, Begin, Commit, Rollback, SetTransaction, SetDeadlockTimeout}
 use Rattle.sql_values.specs.declared.value.Value.{Value}
 use Rattle.sql_values.specs.declared.fault.ValueFault.{ValueFault}
 use Rattle.query_results.specs.Results.{Results}
-use Rattle.query_results.specs.Queries.{AssignedColumn, cols_of, new_values, row_values, columns_assigned, titles_of, undefined_among}
+use Rattle.query_results.specs.Queries.{AssignedColumn, cols_of, new_values, returned_exprs, row_values, columns_assigned, undefined_among}
 use Rattle.query_results.specs.Updates.{columns_set, update_exprs, updated}
 use Rattle.row_versions.specs.declared.names.TxId.{TxId}
 use Rattle.row_versions.specs.declared.names.RowId.{RowId}
@@ -47,7 +47,7 @@ use Rattle.session_machine.specs.declared.session.Request.{Request}
 use Rattle.session_machine.specs.declared.session.Request.TheVariants.{Row, Key}
 use Rattle.session_machine.specs.declared.fault.StmtFault.{StmtFault}
 use Rattle.session_machine.specs.declared.reply.Outcome.{Outcome as Reply}
-use Rattle.session_machine.specs.declared.reply.Outcome.TheVariants.{Rows, Failed}
+use Rattle.session_machine.specs.declared.reply.Outcome.TheVariants.{Failed}
 use Rattle.session_machine.specs.declared.fault.StmtFault.TheVariants.{Aborted as AbortedFault, Deadlock}
 use Rattle.session_machine.specs.Tables.{Database, find_table}
 use Rattle.session_machine.specs.Transactions.{committed, fresh, rolled_back, view_of}
@@ -56,14 +56,15 @@ use Rattle.session_machine.specs.Sound.{command_in}
 use Rattle.session_machine.specs.Statements.{Surroundings, Effect, fails, turns, level_set}
 use Rattle.session_machine.specs.Walks.{Stop, Walk, Blocked, Fails}
 use Rattle.session_machine.specs.AskedKeys.{AskedKey}
-use Rattle.session_machine.specs.Rows.{Work, columns_in, cols_in, stop_at_key, inserted, update_strength, written, values_of}
+use Rattle.session_machine.specs.Rows.{Work, Meets, Stops, PassesOver, Putting, columns_in, cols_in, meet_key, inserted, update_strength, written, values_of}
 use Rattle.session_machine.specs.Running.{run_stmt}
-use Rattle.session_machine.specs.Inner.Statements.{run_piecewise, is_end, walked_from, keys_in, stop_at_keys, insert_one, ask, at_outcome, at_target, update_with, update_one, delete_with, delete_one, lock_with, lock_one, beginning, comes_to, after_walk, done, insert_from, insert, assigned_to, update_from, update, delete_from, delete, lock_from, answered, select_rows, unless_wrong, select, run_open, run_closed, run_on, begun, Visit, goes_on, walked, create}
+use Rattle.session_machine.specs.Inner.Statements.{run_piecewise, is_end, walked_from, keys_in, meet_keys, shows, put_insert, put_update, insert_one, ask, at_outcome, at_target, update_with, update_one, delete_with, delete_one, lock_with, lock_one, beginning, comes_to, after_walk, answer, insert_from, insert, assigned_to, update_from, update, delete_from, delete, lock_from, answered, select_rows, unless_wrong, select, run_open, run_closed, run_on, begun, Visit, goes_on, walked, create}
 use Rattle.session_machine.specs.Targets.{asked_key, passing_targets, taken_targets, going_on}
-use Rattle.session_machine.specs.Inner.Pieces.{drop_ended, unless_stopped, unless_stopped_by, unless_null, insert_made, update_made, lock_made, insert_fitting, insert_to, update_fitting, update_to, delete_fitting, select_in, select_found, run_first, with_table, with_drop, DroppedUpTo, dropped, dropped_at, stop_by}
-use Rattle.session_machine.proofs.Piecewise.{stops_by, drops_by}
+use Rattle.session_machine.specs.Inner.Pieces.{drop_ended, unless_stopped, unless_met, unless_null, insert_made, update_made, shown_made, insert_fitting, insert_to, update_fitting, update_to, delete_fitting, select_in, select_found, run_first, with_table, with_drop, DroppedUpTo, dropped, dropped_at, meet_by}
+use Rattle.session_machine.proofs.Piecewise.{meets_by, drops_by}
 use Rattle.session_machine.proofs.ByKind.{runs_by_kind}
 use Rattle.wait_laws.specs.Laws.{lets_write, lock_of_write}
+use Rattle.wait_laws.proofs.KeyStops.{wait_not}
 use Rattle.wait_laws.proofs.ByKind.{AtOnce, FromStart, FromPlace, by_kind, on_kind}
 use Rattle.wait_laws.proofs.Lists.{holds_last}
 
@@ -298,42 +299,60 @@ comes_unless_null : (x : TxId) (P : Database → Type 0) (ss : List Session) (na
 comes_unless_null x P ss name db due (Some column) p k = comes_fails x P ss db _ p
 comes_unless_null x P ss name db due None p k = k
 
-comes_unless_stopped : (x : TxId) (P : Database → Type 0) (ss : List Session) (db after : Database) (o : Option Stop) → P db → P after
-    → ((r : Request) → o ≡ Some (Blocked r) → Refused x ss db r) → Comes x P ss (unless_stopped_by db after o).db (unless_stopped_by db after o).stop
-comes_unless_stopped x P ss db after (Some (Fails fault)) p q refused = comes_fails x P ss db fault p
-comes_unless_stopped x P ss db after (Some (Blocked r)) p q refused = comes_blocked x P ss db r p (refused r refl)
-comes_unless_stopped x P ss db after None p q refused = comes_on x P ss after [] q
+comes_unless_met : (x : TxId) (P : Database → Type 0) (ss : List Session) (db : Database) (due : Visit) (o : Option Meets) → P db → Comes x P ss due.db due.stop
+    → ((r : Request) → o ≡ Some (Stops (Blocked r)) → Refused x ss db r) → Comes x P ss (unless_met db due o).db (unless_met db due o).stop
+comes_unless_met x P ss db due (Some (Stops (Fails fault))) p k refused = comes_fails x P ss db fault p
+comes_unless_met x P ss db due (Some (Stops (Blocked r))) p k refused = comes_blocked x P ss db r p (refused r refl)
+comes_unless_met x P ss db due (Some PassesOver) p k refused = comes_on x P ss db [] p
+comes_unless_met x P ss db due None p k refused = k
+
+-- what is answered for a row leaves the database as it is
+comes_shown : (x : TxId) (P : Database → Type 0) (ss : List Session) (w : Work) (items : Option (List ItemTree)) (db : Database) (row : List Value) → P db
+    → Comes x P ss (shows w items db row).db (shows w items db row).stop
+comes_shown x P ss w None db row p = comes_on x P ss db [] p
+comes_shown x P ss w (Some items) db row p = made (row_values (cols_in db w) items row) where
+  made : (r : Result (List Value) ValueFault) → Comes x P ss (shown_made db r).db (shown_made db r).stop
+  made (Err fault) = comes_fails x P ss db _ p
+  made (Ok shown) = comes_on x P ss db (shown ∷ []) p
 
 -- who waits for a key has blockers, and closes no cycle
-held_some : (bs : List TxId) (taken : Bool) → found_by bs taken ≡ KeyIsHeld → not (is_none_of bs) ≡ true
-held_some [] true h = cc
-held_some [] false h = cc
+held_some : (bs : List TxId) (taken : Option Seen) → found_by bs taken ≡ KeyIsHeld → not (is_none_of bs) ≡ true
+held_some [] (Some version) h = cc
+held_some [] None h = cc
 held_some (b ∷ bs) taken h = refl
 
-key_refuses : (db : Database) (w : Work) (name : List ℕ) (values : List Value) (except : Option RowId) (key : KeyTree) (r : Request)
-    → stop_at_key db w name values except key ≡ Some (Blocked r) → Refused w.t.tx w.around.sessions db r
-key_refuses db w name values except key r h = by (key_found db.content (record { 0 = w.table }) w.t.tx except values key.columns) refl (sym (stops_by db w name values except key) ∙ h) where
-  asked : AskedKey
-  asked = asked_key w values key
+key_refuses : (db : Database) (w : Work) (name : List ℕ) (do_nothing : Bool) (values : List Value) (except : Option RowId) (key : KeyTree) (r : Request)
+    → meet_key db w name do_nothing values except key ≡ Some (Stops (Blocked r)) → Refused w.t.tx w.around.sessions db r
+key_refuses db w name do_nothing values except key r h =
+    by (key_found db.content (record { 0 = w.table }) w.t.tx except values key.columns) refl (sym (meets_by db w name do_nothing values except key) ∙ h) where
+      asked : AskedKey
+      asked = asked_key w values key
 
-  held : (b : Bool) → closes (waits_in db w.around.sessions) w.t.tx (blockers db (Key asked) w.t.tx) ≡ b → not (is_none_of (blockers db (Key asked) w.t.tx)) ≡ true
-      → (let y : Stop = if b then Fails Deadlock else Blocked (Key asked) in Some y ≡ Some (Blocked r)) → Refused w.t.tx w.around.sessions db r
-  held true e some k = absurd (goes_not Deadlock r k)
-  held false e some k = subst (λ (q : Request). Refused w.t.tx w.around.sessions db q) (same_request (Key asked) r k) (record { free = e; stopped = some })
+      same_met : (a b : Meets) → Some a ≡ Some b → a ≡ b
+      same_met a b k = cc
 
-  by : (f : KeyFound) → key_found db.content (record { 0 = w.table }) w.t.tx except values key.columns ≡ f → stop_by db w name values key f ≡ Some (Blocked r)
-      → Refused w.t.tx w.around.sessions db r
-  by KeyIsFree e k = absurd (none_not (Blocked r) k)
-  by KeyIsTaken e k = absurd (goes_not _ r k)
-  by KeyIsHeld e k = held (closes (waits_in db w.around.sessions) w.t.tx (blockers db (Key asked) w.t.tx)) refl (held_some _ _ e) k
+      same_stop : (a b : Stop) → Stops a ≡ Stops b → a ≡ b
+      same_stop a b k = cc
 
-keys_refuse : (db : Database) (w : Work) (name : List ℕ) (values : List Value) (except : Option RowId) (keys : List KeyTree) (r : Request)
-    → stop_at_keys db w name values except keys ≡ Some (Blocked r) → Refused w.t.tx w.around.sessions db r
-keys_refuse db w name values except [] r h = absurd (none_not (Blocked r) h)
-keys_refuse db w name values except (key ∷ keys) r h = by (stop_at_key db w name values except key) refl (keys_refuse db w name values except keys r) h where
-  by : (o : Option Stop) → stop_at_key db w name values except key ≡ o → (stop_at_keys db w name values except keys ≡ Some (Blocked r) → Refused w.t.tx w.around.sessions db r)
-      → option_or o (stop_at_keys db w name values except keys) ≡ Some (Blocked r) → Refused w.t.tx w.around.sessions db r
-  by (Some stop) e later k = key_refuses db w name values except key r (e ∙ k)
+      held : (b : Bool) → closes (waits_in db w.around.sessions) w.t.tx (blockers db (Key asked) w.t.tx) ≡ b → not (is_none_of (blockers db (Key asked) w.t.tx)) ≡ true
+          → (let y : Stop = if b then Fails Deadlock else Blocked (Key asked) in y ≡ Blocked r) → Refused w.t.tx w.around.sessions db r
+      held true e some k = absurd (goes_not Deadlock r (ap Some k))
+      held false e some k = subst (λ (q : Request). Refused w.t.tx w.around.sessions db q) (same_request (Key asked) r (ap Some k)) (record { free = e; stopped = some })
+
+      by : (f : KeyFound) → key_found db.content (record { 0 = w.table }) w.t.tx except values key.columns ≡ f → meet_by db w name do_nothing values key f ≡ Some (Stops (Blocked r))
+          → Refused w.t.tx w.around.sessions db r
+      by KeyIsFree e k = absurd (none_not (Stops (Blocked r)) k)
+      by (KeyIsTaken version) e k = absurd (wait_not db w name do_nothing key version r (same_met _ _ k))
+      by KeyIsHeld e k = held (closes (waits_in db w.around.sessions) w.t.tx (blockers db (Key asked) w.t.tx)) refl (held_some _ _ e) (same_stop _ _ (same_met _ _ k))
+
+keys_refuse : (db : Database) (w : Work) (put : Putting) (values : List Value) (except : Option RowId) (keys : List KeyTree) (r : Request)
+    → meet_keys db w put values except keys ≡ Some (Stops (Blocked r)) → Refused w.t.tx w.around.sessions db r
+keys_refuse db w put values except [] r h = absurd (none_not (Stops (Blocked r)) h)
+keys_refuse db w put values except (key ∷ keys) r h = by (meet_key db w put.table put.do_nothing values except key) refl (keys_refuse db w put values except keys r) h where
+  by : (o : Option Meets) → meet_key db w put.table put.do_nothing values except key ≡ o
+      → (meet_keys db w put values except keys ≡ Some (Stops (Blocked r)) → Refused w.t.tx w.around.sessions db r)
+      → option_or o (meet_keys db w put values except keys) ≡ Some (Stops (Blocked r)) → Refused w.t.tx w.around.sessions db r
+  by (Some met) e later k = key_refuses db w put.table put.do_nothing values except key r (e ∙ k)
   by None e later k = later k
 
 comes_update_at : (P Q : Database → Type 0) (w : Work) (u : UpdateTree) (targets : List AssignedColumn) → Keeps w.t.tx w.t.command P Q → (db : Database) (seen : Seen) → P db
@@ -343,37 +362,37 @@ comes_update_at P Q w u targets keeps db seen p = comes_target P Q u.table (upda
   a = ask db w (update_strength db w targets u seen.row) Wait u.filter seen
 
   made : (d : Database) (s : Seen) → P d → holds d.held (lock_of a) ≡ true → s.row ≡ a.seen.row → (r : Result (List Value) ValueFault)
-      → Comes w.t.tx P w.around.sessions (update_made w u.table d s.row r).db (update_made w u.table d s.row r).stop
+      → Comes w.t.tx P w.around.sessions (update_made w (put_update u) d s.row r).db (update_made w (put_update u) d s.row r).stop
   made d s q held named (Err fault) = comes_fails w.t.tx P w.around.sessions d _ q
   made d s q held named (Ok values) =
       comes_unless_null w.t.tx P w.around.sessions u.table d _ _ q
-      (comes_unless_stopped w.t.tx P w.around.sessions d _ _ q (writes P Q d w a s.row (Some values) refl (lets_update _ values) keeps q held named)
-      (keys_refuse d w u.table values (Some s.row) (keys_in d w)))
+      (comes_unless_met w.t.tx P w.around.sessions d _ _ q
+      (comes_shown w.t.tx P w.around.sessions w u.returning _ values (writes P Q d w a s.row (Some values) refl (lets_update _ values) keeps q held named))
+      (keys_refuse d w (put_update u) values (Some s.row) (keys_in d w)))
 
 comes_delete_at : (P Q : Database → Type 0) (w : Work) (e : DeleteTree) → Keeps w.t.tx w.t.command P Q → (db : Database) (seen : Seen) → P db
     → Comes w.t.tx P w.around.sessions (delete_one w e db seen).db (delete_one w e db seen).stop
 comes_delete_at P Q w e keeps db seen p =
-    comes_target P Q e.table (delete_with w) db w (ask db w Update Wait e.filter seen) refl keeps p
-    (λ d s q held named. comes_on w.t.tx P w.around.sessions _ [] (writes P Q d w (ask db w Update Wait e.filter seen) s.row None refl refl keeps q held named))
+    comes_target P Q e.table (delete_with w e) db w (ask db w Update Wait e.filter seen) refl keeps p
+    (λ d s q held named. comes_shown w.t.tx P w.around.sessions w e.returning _ (values_of d s) (writes P Q d w (ask db w Update Wait e.filter seen) s.row None refl refl keeps q held named))
 
 comes_lock_at : (P Q : Database → Type 0) (w : Work) (s : SelectTree) (l : Lock) → Keeps w.t.tx w.t.command P Q → (db : Database) (seen : Seen) → P db
     → Comes w.t.tx P w.around.sessions (lock_one w s l db seen).db (lock_one w s l db seen).stop
 comes_lock_at P Q w s l keeps db seen p =
-    comes_target P Q (unwrap_or s.table []) (lock_with w s) db w (ask db w l.strength l.policy s.filter seen) refl keeps p (λ d v q held named. made d q (row_values (cols_in d w) s.items (values_of d v))) where
-      made : (d : Database) → P d → (r : Result (List Value) ValueFault) → Comes w.t.tx P w.around.sessions (lock_made d r).db (lock_made d r).stop
-      made d q (Err fault) = comes_fails w.t.tx P w.around.sessions d _ q
-      made d q (Ok row) = comes_on w.t.tx P w.around.sessions d (row ∷ []) q
+    comes_target P Q (unwrap_or s.table []) (lock_with w s) db w (ask db w l.strength l.policy s.filter seen) refl keeps p
+    (λ d v q held named. comes_shown w.t.tx P w.around.sessions w (Some s.items) d (values_of d v) q)
 
-comes_insert_at : (P Q : Database → Type 0) (w : Work) (name : List ℕ) (targets : List AssignedColumn) → Keeps w.t.tx w.t.command P Q → (db : Database) (row : List Tree) → P db
-    → Comes w.t.tx P w.around.sessions (insert_one w name targets db row).db (insert_one w name targets db row).stop
-comes_insert_at P Q w name targets keeps db row p = made (new_values _ targets row) where
-  made : (r : Result (List Value) ValueFault) → Comes w.t.tx P w.around.sessions (insert_made w name db r).db (insert_made w name db r).stop
+comes_insert_at : (P Q : Database → Type 0) (w : Work) (put : Putting) (targets : List AssignedColumn) → Keeps w.t.tx w.t.command P Q → (db : Database) (row : List Tree) → P db
+    → Comes w.t.tx P w.around.sessions (insert_one w put targets db row).db (insert_one w put targets db row).stop
+comes_insert_at P Q w put targets keeps db row p = made (new_values _ targets row) where
+  made : (r : Result (List Value) ValueFault) → Comes w.t.tx P w.around.sessions (insert_made w put db r).db (insert_made w put db r).stop
   made (Err fault) = comes_fails w.t.tx P w.around.sessions db _ p
   made (Ok values) =
-      comes_unless_null w.t.tx P w.around.sessions name db _ _ p
-      (comes_unless_stopped w.t.tx P w.around.sessions db (inserted db w values) _ p
-      (keeps.insert db (record { tx = w.t.tx; command = w.t.command; table = record { 0 = w.table }; row = new_row db.content; values = Some values }) refl refl refl p)
-      (keys_refuse db w name values None (keys_in db w)))
+      comes_unless_null w.t.tx P w.around.sessions put.table db _ _ p
+      (comes_unless_met w.t.tx P w.around.sessions db _ _ p
+      (comes_shown w.t.tx P w.around.sessions w put.returning (inserted db w values) values
+      (keeps.insert db (record { tx = w.t.tx; command = w.t.command; table = record { 0 = w.table }; row = new_row db.content; values = Some values }) refl refl refl p))
+      (keys_refuse db w put values None (keys_in db w)))
 
 same_open : (t u : OpenTransaction) → Open t ≡ Open u → t ≡ u
 same_open t u h = cc
@@ -420,22 +439,23 @@ ran_ended P Q V before w f k keeps view c = by k.stop c.blocked where
 ran_insert_from : (P Q : Database → Type 0) (V : View → Type 0) (db : Database) (w : Work) (i : InsertTree) (place : ℕ) (rows : List (List Value)) → Keeps w.t.tx w.t.command P Q → V w.view → P db
     → Ran w.t.tx w.t.command P Q V w.around.sessions (insert_from db w i place rows)
 ran_insert_from P Q V db w i place rows keeps view p =
-    ran_ended P Q V db.content w done _ keeps view
-    (comes_walked w.t.tx P w.around.sessions _ (comes_insert_at P Q w i.table (assigned_to (columns_assigned (columns_in db w) i.columns)) keeps) db place rows (drop place i.rows) p)
+    ran_ended P Q V db.content w (answer (columns_in db w) i.returning) _ keeps view
+    (comes_walked w.t.tx P w.around.sessions _ (comes_insert_at P Q w (put_insert i) (assigned_to (columns_assigned (columns_in db w) i.columns)) keeps) db place rows (drop place i.rows) p)
 
 ran_insert_to : (P Q : Database → Type 0) (V : View → Type 0) (db : Database) (w : Work) (i : InsertTree) (r : Result (List AssignedColumn) (List ℕ)) → Keeps w.t.tx w.t.command P Q → V w.view → P db
     → Ran w.t.tx w.t.command P Q V w.around.sessions (insert_to db w i r)
 ran_insert_to P Q V db w i (Err column) keeps view p = ran_fails P Q V w.around.sessions db w.t _ keeps p
-ran_insert_to P Q V db w i (Ok targets) keeps view p = fitting (undefined_among [] (flat_map (λ row. row) i.rows)) where
-  fitting : (o : Option (List ℕ)) → Ran w.t.tx w.t.command P Q V w.around.sessions (insert_fitting db w i targets o)
-  fitting (Some name) = ran_fails P Q V w.around.sessions db w.t _ keeps p
-  fitting None =
+ran_insert_to P Q V db w i (Ok targets) keeps view p = fitting (undefined_among [] (flat_map (λ row. row) i.rows)) (undefined_among (cols_of (columns_in db w)) (returned_exprs i.returning)) where
+  fitting : (in_values in_returning : Option (List ℕ)) → Ran w.t.tx w.t.command P Q V w.around.sessions (insert_fitting db w i targets in_values in_returning)
+  fitting (Some name) in_returning = ran_fails P Q V w.around.sessions db w.t _ keeps p
+  fitting None (Some name) = ran_fails P Q V w.around.sessions db w.t _ keeps p
+  fitting None None =
       ran_if P Q V w.around.sessions w.t.tx w.t.command _ _ _ (ran_fails P Q V w.around.sessions db w.t _ keeps p) (ran_insert_from P Q V db w i 0 [] keeps view p)
 
 ran_update_from : (P Q : Database → Type 0) (V : View → Type 0) (db : Database) (w : Work) (u : UpdateTree) (place : ℕ) (rows : List (List Value)) → Keeps w.t.tx w.t.command P Q → V w.view → P db
     → Ran w.t.tx w.t.command P Q V w.around.sessions (update_from db w u place rows)
 ran_update_from P Q V db w u place rows keeps view p =
-    ran_ended P Q V db.content w done _ keeps view
+    ran_ended P Q V db.content w (answer (columns_in db w) u.returning) _ keeps view
     (comes_from w.t.tx P w.around.sessions _ (comes_update_at P Q w u (assigned_to (columns_set (columns_in db w) u.sets)) keeps) db place rows (passing_targets db w u.filter) p)
 
 ran_update_to : (P Q : Database → Type 0) (V : View → Type 0) (db : Database) (w : Work) (u : UpdateTree) (r : Result (List AssignedColumn) (List ℕ)) → Keeps w.t.tx w.t.command P Q → V w.view → P db
@@ -449,7 +469,7 @@ ran_update_to P Q V db w u (Ok targets) keeps view p = fitting (undefined_among 
 ran_delete_from : (P Q : Database → Type 0) (V : View → Type 0) (db : Database) (w : Work) (e : DeleteTree) (place : ℕ) (rows : List (List Value)) → Keeps w.t.tx w.t.command P Q → V w.view → P db
     → Ran w.t.tx w.t.command P Q V w.around.sessions (delete_from db w e place rows)
 ran_delete_from P Q V db w e place rows keeps view p =
-    ran_ended P Q V db.content w done _ keeps view
+    ran_ended P Q V db.content w (answer (columns_in db w) e.returning) _ keeps view
     (comes_from w.t.tx P w.around.sessions _ (comes_delete_at P Q w e keeps) db place rows (passing_targets db w e.filter) p)
 
 ran_delete_fitting : (P Q : Database → Type 0) (V : View → Type 0) (db : Database) (w : Work) (e : DeleteTree) (o : Option (List ℕ)) → Keeps w.t.tx w.t.command P Q → V w.view → P db
@@ -460,8 +480,7 @@ ran_delete_fitting P Q V db w e None keeps view p = ran_delete_from P Q V db w e
 ran_lock_from : (P Q : Database → Type 0) (V : View → Type 0) (db : Database) (w : Work) (s : SelectTree) (l : Lock) (place : ℕ) (rows : List (List Value)) → Keeps w.t.tx w.t.command P Q → V w.view → P db
     → Ran w.t.tx w.t.command P Q V w.around.sessions (lock_from db w s l place rows)
 ran_lock_from P Q V db w s l place rows keeps view p =
-    let shown : List (List Value) → Reply = λ y. Rows (record { titles = titles_of (columns_in db w) s.items; rows = y }) in
-    ran_ended P Q V db.content w shown (walked_from (lock_one w s l) db place rows (taken_targets db w s)) keeps view
+    ran_ended P Q V db.content w (answer (columns_in db w) (Some s.items)) (walked_from (lock_one w s l) db place rows (taken_targets db w s)) keeps view
     (comes_from w.t.tx P w.around.sessions _ (comes_lock_at P Q w s l keeps) db place rows (taken_targets db w s) p)
 
 ran_answered : (P Q : Database → Type 0) (V : View → Type 0) (ss : List Session) (db : Database) (t : OpenTransaction) (r : Result Results ValueFault) → Keeps t.tx t.command P Q → P db

@@ -8,7 +8,7 @@ use Rattle.sql_trees.specs.Statements.{StmtTree, CreateTree, InsertTree, UpdateT
 use Rattle.sql_values.specs.declared.value.Value.{Value}
 use Rattle.sql_values.specs.declared.fault.ValueFault.{ValueFault}
 use Rattle.query_results.specs.Results.{Results}
-use Rattle.query_results.specs.Queries.{AssignedColumn, cols_of, columns_assigned, titles_of, undefined_among}
+use Rattle.query_results.specs.Queries.{AssignedColumn, cols_of, columns_assigned, returned_exprs, undefined_among}
 use Rattle.query_results.specs.Updates.{columns_set, update_exprs}
 use Rattle.row_versions.specs.Log.{Content, commit_count}
 use Rattle.session_machine.specs.declared.session.OpenTransaction.{OpenTransaction}
@@ -18,14 +18,14 @@ use Rattle.session_machine.specs.declared.session.Progress.{Progress}
 use Rattle.session_machine.specs.declared.fault.StmtFault.{StmtFault}
 use Rattle.session_machine.specs.declared.fault.StmtFault.TheVariants.{Aborted as AbortedFault}
 use Rattle.session_machine.specs.declared.reply.Outcome.{Outcome}
-use Rattle.session_machine.specs.declared.reply.Outcome.TheVariants.{Failed, Rows}
+use Rattle.session_machine.specs.declared.reply.Outcome.TheVariants.{Failed}
 use Rattle.session_machine.specs.Tables.{Database, find_table}
 use Rattle.session_machine.specs.Transactions.{fresh, started}
 use Rattle.session_machine.specs.Statements.{Surroundings, Effect, fails, turns, level_set}
 use Rattle.session_machine.specs.Walks.{Stop, Walk, Blocked, Fails}
 use Rattle.session_machine.specs.Rows.{Work, columns_in}
 use Rattle.session_machine.specs.Running.{run_stmt}
-use Rattle.session_machine.specs.Inner.Statements.{run_piecewise, is_end, walked_from, insert_one, update_one, delete_one, lock_one, beginning, comes_to, after_walk, done, insert_from, update_from, delete_from, lock_from, assigned_to, insert, update, delete, answered, select_rows, unless_wrong, select, run_open, run_closed, run_on, begun, moved_on, walked, create}
+use Rattle.session_machine.specs.Inner.Statements.{run_piecewise, is_end, walked_from, insert_one, update_one, delete_one, lock_one, beginning, comes_to, after_walk, answer, put_insert, insert_from, update_from, delete_from, lock_from, assigned_to, insert, update, delete, answered, select_rows, unless_wrong, select, run_open, run_closed, run_on, begun, moved_on, walked, create}
 use Rattle.session_machine.specs.Targets.{passing_targets, taken_targets, going_on}
 use Rattle.session_machine.specs.Inner.Pieces.{drop_ended, insert_fitting, insert_to, update_fitting, update_to, delete_fitting, select_found, run_first, dropped}
 use Rattle.session_machine.proofs.Piecewise.{drops_by}
@@ -84,29 +84,29 @@ shot_ended count before w f k has same = by k.stop where
 shot_insert_from : (count : ℕ) (db : Database) (w : Work) (i : InsertTree) (place : ℕ) (rows : List (List Value)) → Has count w.t → commit_count db.content ≡ count
     → Shot count (insert_from db w i place rows)
 shot_insert_from count db w i place rows has same =
-    shot_ended count db.content w done (walked (insert_one w i.table (assigned_to (columns_assigned (columns_in db w) i.columns))) db place rows (drop place i.rows)) has same
+    shot_ended count db.content w (answer (columns_in db w) i.returning) (walked (insert_one w (put_insert i) (assigned_to (columns_assigned (columns_in db w) i.columns))) db place rows (drop place i.rows)) has same
 
 shot_update_from : (count : ℕ) (db : Database) (w : Work) (u : UpdateTree) (place : ℕ) (rows : List (List Value)) → Has count w.t → commit_count db.content ≡ count
     → Shot count (update_from db w u place rows)
 shot_update_from count db w u place rows has same =
-    shot_ended count db.content w done (walked_from (update_one w u (assigned_to (columns_set (columns_in db w) u.sets))) db place rows (passing_targets db w u.filter)) has same
+    shot_ended count db.content w (answer (columns_in db w) u.returning) (walked_from (update_one w u (assigned_to (columns_set (columns_in db w) u.sets))) db place rows (passing_targets db w u.filter)) has same
 
 shot_delete_from : (count : ℕ) (db : Database) (w : Work) (e : DeleteTree) (place : ℕ) (rows : List (List Value)) → Has count w.t → commit_count db.content ≡ count
     → Shot count (delete_from db w e place rows)
-shot_delete_from count db w e place rows has same = shot_ended count db.content w done (walked_from (delete_one w e) db place rows (passing_targets db w e.filter)) has same
+shot_delete_from count db w e place rows has same = shot_ended count db.content w (answer (columns_in db w) e.returning) (walked_from (delete_one w e) db place rows (passing_targets db w e.filter)) has same
 
 shot_lock_from : (count : ℕ) (db : Database) (w : Work) (s : SelectTree) (l : Lock) (place : ℕ) (rows : List (List Value)) → Has count w.t → commit_count db.content ≡ count
     → Shot count (lock_from db w s l place rows)
 shot_lock_from count db w s l place rows has same =
-    let shown : List (List Value) → Outcome = λ y. Rows (record { titles = titles_of (columns_in db w) s.items; rows = y }) in
-    shot_ended count db.content w shown (walked_from (lock_one w s l) db place rows (taken_targets db w s)) has same
+    shot_ended count db.content w (answer (columns_in db w) (Some s.items)) (walked_from (lock_one w s l) db place rows (taken_targets db w s)) has same
 
 shot_insert_to : (count : ℕ) (db : Database) (w : Work) (i : InsertTree) (r : Result (List AssignedColumn) (List ℕ)) → Has count w.t → commit_count db.content ≡ count → Shot count (insert_to db w i r)
 shot_insert_to count db w i (Err column) has same = shot_fails count db w.t _
-shot_insert_to count db w i (Ok targets) has same = by (undefined_among [] (flat_map (λ row. row) i.rows)) where
-  by : (o : Option (List ℕ)) → Shot count (insert_fitting db w i targets o)
-  by (Some name) = shot_fails count db w.t _
-  by None = shot_if count _ _ _ (shot_fails count db w.t _) (shot_insert_from count db w i 0 [] has same)
+shot_insert_to count db w i (Ok targets) has same = by (undefined_among [] (flat_map (λ row. row) i.rows)) (undefined_among (cols_of (columns_in db w)) (returned_exprs i.returning)) where
+  by : (in_values in_returning : Option (List ℕ)) → Shot count (insert_fitting db w i targets in_values in_returning)
+  by (Some name) in_returning = shot_fails count db w.t _
+  by None (Some name) = shot_fails count db w.t _
+  by None None = shot_if count _ _ _ (shot_fails count db w.t _) (shot_insert_from count db w i 0 [] has same)
 
 shot_update_to : (count : ℕ) (db : Database) (w : Work) (u : UpdateTree) (r : Result (List AssignedColumn) (List ℕ)) → Has count w.t → commit_count db.content ≡ count → Shot count (update_to db w u r)
 shot_update_to count db w u (Err column) has same = shot_fails count db w.t _

@@ -8,7 +8,7 @@ use Rattle.sql_trees.specs.declared.stmt.Level.{Level}
 use Rattle.sql_trees.specs.declared.stmt.Level.TheVariants.{ReadCommitted, RepeatableRead}
 use Rattle.sql_trees.specs.declared.stmt.Policy.TheVariants.{Wait}
 use Rattle.sql_trees.specs.Trees.{Tree}
-use Rattle.sql_trees.specs.Statements.{KeyTree, StmtTree, InsertTree, UpdateTree, Begin, Commit, Rollback, SetTransaction, SetDeadlockTimeout, Create, DropTables, Inserts, Updates, Deletes, Selects}
+use Rattle.sql_trees.specs.Statements.{ItemTree, KeyTree, StmtTree, InsertTree, UpdateTree, Begin, Commit, Rollback, SetTransaction, SetDeadlockTimeout, Create, DropTables, Inserts, Updates, Deletes, Selects}
 use Rattle.sql_values.specs.declared.value.Value.{Value}
 use Rattle.sql_values.specs.declared.fault.ValueFault.{ValueFault}
 use Rattle.query_results.specs.Queries.{columns_assigned, new_values, null_in, row_values}
@@ -32,7 +32,8 @@ use Rattle.session_machine.specs.declared.fault.StmtFault.TheVariants.{Value as 
 use Rattle.session_machine.specs.Tables.{Database}
 use Rattle.session_machine.specs.Waits.{waits_in}
 use Rattle.session_machine.specs.Walks.{Stop, Walk, Blocked, Fails, over, passed, stopped}
-use Rattle.session_machine.specs.Rows.{Work, columns_in, cols_in, values_of, inserted, written, stop_at_key, put_row, act_on, policy_of, table_named, target_asked, visit_target, insert_row, over_targets}
+use Rattle.session_machine.specs.Rows.{Work, Meets, Stops, PassesOver, Putting, columns_in, cols_in, values_of, inserted, written, meet_key, meets, returned, put_row, act_on, policy_of, table_named, target_asked, visit_target, insert_row, over_targets}
+use Rattle.session_machine.specs.Inner.Statements.{put_insert, put_update}
 use Rattle.session_machine.specs.Targets.{asked_key, at_places, seen_by}
 use Rattle.wait_laws.specs.Laws.{is_worth_a_wait}
 use Rattle.wait_laws.specs.Replies.{ComesTo, AsksForKeyOf, AsksForKey, AsksToUpdate, AsksAtTarget, AsksOverTargets, AsksOver, keys_of, with_target}
@@ -55,6 +56,12 @@ stop_of name ask IsNotFree = Some (Fails (NotFree name))
 stop_of name ask Serializes = Some (Fails NotSerializable)
 stop_of name ask (Faults fault) = Some (Fails (OfValue fault))
 
+-- and what a row meets at a key
+abbrev pub stop_met : Option Meets → Option Stop
+stop_met None = None
+stop_met (Some (Stops stop)) = Some stop
+stop_met (Some PassesOver) = None
+
 abbrev pub outcome_at : Database → Work → Asked → TargetOutcome
 outcome_at db w ask = target_outcome db.content db.held (waits_in db w.around.sessions) ask
 
@@ -64,8 +71,8 @@ pub record Tells (S : Option Stop → Type 0) (C : TxId → List Session → Dat
   pub other : (fault : StmtFault) → (fault ≡ Deadlock → ⊥) → S (Some (Fails fault)) → ⊥
   pub row : (db : Database) (w : Work) (name : List ℕ) (ask : Asked) → S (stop_of name ask (outcome_at db w ask))
       ↔ (IsTrue (is_worth_a_wait ask.level (newest_version db.content ask)) × (ask.policy ≡ Wait) × C ask.tx w.around.sessions db (Row ask.seen.row ask.strength))
-  pub key : (db : Database) (w : Work) (name : List ℕ) (values : List Value) (except : Option RowId) (key : KeyTree)
-      → S (stop_at_key db w name values except key) ↔ C w.t.tx w.around.sessions db (Key (asked_key w values key))
+  pub key : (db : Database) (w : Work) (name : List ℕ) (do_nothing : Bool) (values : List Value) (except : Option RowId) (key : KeyTree)
+      → S (stop_met (meet_key db w name do_nothing values except key)) ↔ C w.t.tx w.around.sessions db (Key (asked_key w values key))
 
 -- a walk that is stopped visits nothing more
 rests : {A : Type 0} (visit : Walk → A → Walk) (walk : Walk) (stop : Stop) → walk.stop ≡ Some stop → (xs : List A) → over visit walk xs ≡ walk
@@ -151,59 +158,74 @@ module _ (S : Option Stop → Type 0) (C : TxId → List Session → Database �
             )
 
   -- of the first key that isn't free
-  keys_stop : (db : Database) (w : Work) (name : List ℕ) (values : List Value) (except : Option RowId) (keys : List KeyTree)
-      → S (slice_get (filter_map (stop_at_key db w name values except) keys) 0)
+  keys_stop : (db : Database) (w : Work) (name : List ℕ) (do_nothing : Bool) (values : List Value) (except : Option RowId) (keys : List KeyTree)
+      → S (stop_met (slice_get (filter_map (meet_key db w name do_nothing values except) keys) 0))
       ↔ ((request : Request) × AsksForKeyOf db w values except keys request × C w.t.tx w.around.sessions db request)
-  keys_stop db w name values except [] = neither tells.none (λ c. c.1)
-  keys_stop db w name values except (key ∷ keys) = by (stop_at_key db w name values except key) refl (keys_stop db w name values except keys) where
-    others : List Stop
-    others = filter_map (stop_at_key db w name values except) keys
+  keys_stop db w name do_nothing values except [] = neither tells.none (λ c. c.1)
+  keys_stop db w name do_nothing values except (key ∷ keys) = by (meet_key db w name do_nothing values except key) refl (keys_stop db w name do_nothing values except keys) where
+    others : List Meets
+    others = filter_map (meet_key db w name do_nothing values except) keys
 
     Asked : List KeyTree → Type 0
     Asked ks = (request : Request) × AsksForKeyOf db w values except ks request × C w.t.tx w.around.sessions db request
 
-    by : (o : Option Stop) → stop_at_key db w name values except key ≡ o → S (slice_get others 0) ↔ Asked keys → S (slice_get (cons_option o others) 0) ↔ Asked (key ∷ keys)
+    by : (o : Option Meets) → meet_key db w name do_nothing values except key ≡ o → S (stop_met (slice_get others 0)) ↔ Asked keys
+        → S (stop_met (slice_get (cons_option o others) 0)) ↔ Asked (key ∷ keys)
     by None e on = (
-      λ s. let c = on.0 s in let free = (key_is_exact db w name values except key).free.0 e in (c.0, inr (free.0, free.1, c.1), c.2),
+      λ s. let c = on.0 s in let free = (key_is_exact db w name do_nothing values except key).free.0 e in (c.0, inr (free.0, free.1, c.1), c.2),
       λ c. elim c.1 [
-        | inl its ↦ absurd (tells.none (subst S e ((tells.key db w name values except key).1 (subst (C w.t.tx w.around.sessions db) its c.2))))
+        | inl its ↦
+            absurd (tells.none (subst (λ (o : Option Meets). S (stop_met o)) e ((tells.key db w name do_nothing values except key).1 (subst (C w.t.tx w.around.sessions db) its c.2))))
         | inr later ↦ on.1 (c.0, later.2, c.2)
       ],
     )
-    by (Some stop) e on = (
-      λ s. (Key (asked_key w values key), inl refl, (tells.key db w name values except key).0 (subst S (sym e) s)),
+    by (Some met) e on = (
+      λ s. (Key (asked_key w values key), inl refl, (tells.key db w name do_nothing values except key).0 (subst (λ (o : Option Meets). S (stop_met o)) (sym e) s)),
       λ c. elim c.1 [
-        | inl its ↦ subst S e ((tells.key db w name values except key).1 (subst (C w.t.tx w.around.sessions db) its c.2))
-        | inr later ↦ absurd (none_some stop (sym ((key_is_exact db w name values except key).free.1 (later.0, later.1)) ∙ e))
+        | inl its ↦ subst (λ (o : Option Meets). S (stop_met o)) e ((tells.key db w name do_nothing values except key).1 (subst (C w.t.tx w.around.sessions db) its c.2))
+        | inr later ↦ absurd (none_some met (sym ((key_is_exact db w name do_nothing values except key).free.1 (later.0, later.1)) ∙ e))
       ],
     )
 
+  -- what is answered for a row stops a statement by nothing that is spoken of
+  shown_not : (w : Work) (items : Option (List ItemTree)) (walk : Walk) (db : Database) (row : List Value) → S (returned w items walk db row).stop → ⊥
+  shown_not w None walk db row = tells.none
+  shown_not w (Some items) walk db row = by (row_values (cols_in db w) items row) where
+    by : (r : Result (List Value) ValueFault)
+        → (let v : Walk = elim r [ Ok shown ↦ passed walk db (shown ∷ []) | Err fault ↦ stopped (record walk { db = db }) (Fails (OfValue fault)) ] in S v.stop) → ⊥
+    by (Ok shown) = tells.none
+    by (Err fault) = tells.other (OfValue fault) (λ e. cc)
+
   -- of a row that is about to be written
-  puts : (w : Work) (name : List ℕ) (except : Option RowId) (made : Result (List Value) ValueFault) (walk : Walk)
-      → S (put_row w name except made walk).stop ↔ ((request : Request) × AsksForKey walk.db w except made request × C w.t.tx w.around.sessions walk.db request)
-  puts w name except (Err fault) walk = neither (tells.other (OfValue fault) (λ e. cc)) (λ c. err_values fault c.1.0 c.1.1)
-  puts w name except (Ok values) walk = by (null_in (columns_in walk.db w) values) refl where
-    first : Option Stop
-    first = slice_get (filter_map (stop_at_key walk.db w name values except) (keys_of walk.db w)) 0
+  puts : (w : Work) (put : Putting) (except : Option RowId) (made : Result (List Value) ValueFault) (walk : Walk)
+      → S (put_row w put except made walk).stop ↔ ((request : Request) × AsksForKey walk.db w except made request × C w.t.tx w.around.sessions walk.db request)
+  puts w put except (Err fault) walk = neither (tells.other (OfValue fault) (λ e. cc)) (λ c. err_values fault c.1.0 c.1.1)
+  puts w put except (Ok values) walk = by (null_in (columns_in walk.db w) values) refl where
+    first : Option Meets
+    first = slice_get (filter_map (meet_key walk.db w put.table put.do_nothing values except) (keys_of walk.db w)) 0
+
+    written_so : Database
+    written_so = option_map_or (λ place. written walk.db w place (Some values)) except (inserted walk.db w values)
 
     after : Walk
-    after = passed walk (option_map_or (λ place. written walk.db w place (Some values)) except (inserted walk.db w values)) []
+    after = returned w put.returning walk written_so values
 
     Asked : Type 0
     Asked = (request : Request) × AsksForKey walk.db w except (Ok values) request × C w.t.tx w.around.sessions walk.db request
 
-    its : (o : Option Stop) → (option_map_or (stopped walk) o after).stop ≡ o
-    its None = refl
-    its (Some stop) = refl
+    its : (o : Option Meets) → S (option_map_or (meets walk) o after).stop ↔ S (stop_met o)
+    its None = neither (shown_not w put.returning walk written_so values) tells.none
+    its (Some (Stops stop)) = (λ s. s, λ s. s)
+    its (Some PassesOver) = (λ s. s, λ s. s)
 
     by : (null : Option (List ℕ)) → null_in (columns_in walk.db w) values ≡ null
-        → S (option_map_or (stopped walk) (option_or (option_map (λ column. Fails (NullValue column name)) null) first) after).stop ↔ Asked
-    by (Some column) e = neither (tells.other (NullValue column name) (λ f. cc))
+        → S (option_map_or (meets walk) (option_or (option_map (λ column. Stops (Fails (NullValue column put.table))) null) first) after).stop ↔ Asked
+    by (Some column) e = neither (tells.other (NullValue column put.table) (λ f. cc))
         (λ c. none_some column (sym (subst (λ (vs : List Value). null_in (columns_in walk.db w) vs ≡ None) (sym (same_values values c.1.0 c.1.1)) c.1.2) ∙ e))
     by None e =
-        let on = keys_stop walk.db w name values except (keys_of walk.db w) in (
-          λ s. let c = on.0 (subst S (its first) s) in (c.0, (values, refl, e, c.1), c.2),
-          λ c. subst S (sym (its first)) (on.1 (c.0, subst (λ (vs : List Value). AsksForKeyOf walk.db w vs except (keys_of walk.db w) c.0) (sym (same_values values c.1.0 c.1.1)) c.1.3, c.2)),
+        let on = keys_stop walk.db w put.table put.do_nothing values except (keys_of walk.db w) in (
+          λ s. let c = on.0 ((its first).0 s) in (c.0, (values, refl, e, c.1), c.2),
+          λ c. (its first).1 (on.1 (c.0, subst (λ (vs : List Value). AsksForKeyOf walk.db w vs except (keys_of walk.db w) c.0) (sym (same_values values c.1.0 c.1.1)) c.1.3, c.2)),
         )
 
   abbrev Updates_at : Work → StmtTree → Database → Seen → Type 0
@@ -212,16 +234,12 @@ module _ (S : Option Stop → Type 0) (C : TxId → List Session → Database �
   -- of what is done once a target is locked
   acts : (w : Work) (stmt : StmtTree) (at : Walk) (version : Seen) → S (act_on w stmt at version).stop ↔ Updates_at w stmt at.db version
   acts w (Updates u) at version =
-      let on = puts w u.table (Some version.row) (updated (cols_in at.db w) (result_unwrap_or (columns_set (columns_in at.db w) u.sets) []) u.sets (values_of at.db version)) at in (
+      let on = puts w (put_update u) (Some version.row) (updated (cols_in at.db w) (result_unwrap_or (columns_set (columns_in at.db w) u.sets) []) u.sets (values_of at.db version)) at in (
         λ s. let c = on.0 s in (c.0, (u, refl, c.1), c.2),
         λ c. on.1 (c.0, subst (λ (v : UpdateTree). AsksToUpdate at.db w v version c.0) (sym (same_update u c.1.0 c.1.1)) c.1.2, c.2),
       )
-  acts w (Selects s) at version = by (row_values (cols_in at.db w) s.items (values_of at.db version)) where
-    by : (r : Result (List Value) ValueFault)
-        → (let v : Walk = elim r [ Ok row ↦ passed at at.db (row ∷ []) | Err fault ↦ stopped at (Fails (OfValue fault)) ] in S v.stop) ↔ Updates_at w (Selects s) at.db version
-    by (Ok row) = neither tells.none (λ c. let k = c.1.1 in cc)
-    by (Err fault) = neither (tells.other (OfValue fault) (λ e. cc)) (λ c. let k = c.1.1 in cc)
-  acts w (Deletes d) at version = neither tells.none (λ c. let k = c.1.1 in cc)
+  acts w (Selects s) at version = neither (shown_not w (Some s.items) at at.db (values_of at.db version)) (λ c. let k = c.1.1 in cc)
+  acts w (Deletes d) at version = neither (shown_not w d.returning at (written at.db w version.row None) (values_of at.db version)) (λ c. let k = c.1.1 in cc)
   acts w (Inserts i) at version = neither tells.none (λ c. let k = c.1.1 in cc)
   acts w (Begin level) at version = neither tells.none (λ c. let k = c.1.1 in cc)
   acts w Commit at version = neither tells.none (λ c. let k = c.1.1 in cc)
@@ -347,4 +365,4 @@ module _ (S : Option Stop → Type 0) (C : TxId → List Session → Database �
 
         put : (d : Database) (before : Walk) (row : List Tree) → S (insert_row w i before row).stop
             ↔ ((request : Request) × AsksForKey before.db w None (made before.db row) request × C w.t.tx w.around.sessions before.db request)
-        put d before row = puts w i.table None (made before.db row) before
+        put d before row = puts w (put_insert i) None (made before.db row) before

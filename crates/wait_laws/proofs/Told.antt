@@ -1,6 +1,6 @@
 -- `deadlock detected` and waits, as replies.
 use Rattle.std.proofs.Common.{◌≡◌, ◌≢◌, ◌↔◌, refl, sym, ◌∙◌, ap, false, ℕ, List, [], ◌∷◌, ◌++◌}
-use Rattle.std.specs.Prelude.{Option, Some, Ok}
+use Rattle.std.specs.Prelude.{Option, Some, None, Ok}
 use Rattle.row_versions.specs.declared.names.TxId.{TxId}
 use Rattle.row_versions.specs.Members.{is_none_of}
 use Rattle.row_locks.specs.Cycles.{blocks, Closes}
@@ -19,18 +19,25 @@ use Rattle.session_machine.specs.declared.reply.HistItem.{HistItem}
 use Rattle.session_machine.specs.Tables.{Database}
 use Rattle.session_machine.specs.Waits.{blockers, waits_in}
 use Rattle.session_machine.specs.Walks.{Stop, Blocked, Fails}
+use Rattle.session_machine.specs.Rows.{Meets, Stops, PassesOver, meet_key}
 use Rattle.session_machine.specs.Targets.{asked_key}
 use Rattle.session_machine.specs.Machine.{Machine, Blocks, Next, next, opening, Run}
 use Rattle.wait_laws.specs.Replies.{DeadlockIsAnswered, IsAnsweredSo}
 use Rattle.wait_laws.proofs.Deadlocks.{deadlock_is_exact}
 use Rattle.wait_laws.proofs.KeyStops.{key_is_exact, waits_for_it}
-use Rattle.wait_laws.proofs.Stops.{Tells, none_some, outcome_at, stop_of}
+use Rattle.wait_laws.proofs.Stops.{Tells, none_some, outcome_at, stop_met, stop_of}
 use Rattle.wait_laws.proofs.Answering.{Shows, events}
 
 -- ---- deadlocks
 
 abbrev Closing : TxId → List Session → Database → Request → Type 0
 Closing tx ss db r = Closes (blocks (waits_in db ss)) tx (blockers db r tx)
+
+-- a row meets what stops the statement
+met_so : (o : Option Meets) (stop : Stop) → (stop_met o ≡ Some stop) ↔ (o ≡ Some (Stops stop))
+met_so None stop = (λ h. cc, λ h. cc)
+met_so (Some PassesOver) stop = (λ h. cc, λ h. cc)
+met_so (Some (Stops s)) stop = (λ h. cc, λ h. cc)
 
 stops_deadlocked : (name : List ℕ) (ask : Asked) (o : TargetOutcome) → (stop_of name ask o ≡ Some (Fails Deadlock)) ↔ (o ≡ Deadlocks)
 stops_deadlocked name ask (Takes version) = (λ h. cc, λ h. cc)
@@ -49,7 +56,10 @@ tells_deadlocks = record {
       let stops = stops_deadlocked name ask (outcome_at db w ask) in
       let exact = (deadlock_is_exact db.content db.held (waits_in db w.around.sessions) ask).deadlocks in
       (λ h. exact.0 (stops.0 h), λ h. stops.1 (exact.1 h));
-  key = λ db w name values except key. (key_is_exact db w name values except key).deadlocks;
+  key = λ db w name do_nothing values except key.
+      let met = met_so (meet_key db w name do_nothing values except key) (Fails Deadlock) in
+      let exact = (key_is_exact db w name do_nothing values except key).deadlocks in
+      (λ h. exact.0 (met.0 h), λ h. met.1 (exact.1 h));
 } where
   its : (fault : StmtFault) → Some (Fails fault) ≡ Some (Fails Deadlock) → fault ≡ Deadlock
   its fault h = cc
@@ -100,9 +110,13 @@ tells_waits = record {
       let exact = (deadlock_is_exact db.content db.held (waits_in db w.around.sessions) ask).waits_else in
       let some = some_in (blockers db (Row ask.seen.row ask.strength) ask.tx) in
       (λ h. let c = exact.0 (stops.0 h) in (c.0, c.1, (some.0 c.2, c.3)), λ h. stops.1 (exact.1 (h.0, h.1, some.1 h.2.0, h.2.1)));
-  key = λ db w name values except key.
-      let exact = (key_is_exact db w name values except key).waits_else in
-      (λ h. exact.0 (h.1 ∙ ap (λ (r : Request). Some (Blocked r)) (sym (waits_for_it db w name values except key h.0 h.1))), λ h. (Key (asked_key w values key), exact.1 h));
+  key = λ db w name do_nothing values except key.
+      let met : (r : Request) → (stop_met (meet_key db w name do_nothing values except key) ≡ Some (Blocked r)) ↔ (meet_key db w name do_nothing values except key ≡ Some (Stops (Blocked r))) =
+      λ r. met_so (meet_key db w name do_nothing values except key) (Blocked r) in
+      let exact = (key_is_exact db w name do_nothing values except key).waits_else in (
+        λ h. let m = (met h.0).0 h.1 in exact.0 (m ∙ ap (λ (r : Request). Some (Stops (Blocked r))) (sym (waits_for_it db w name do_nothing values except key h.0 m))),
+        λ h. (Key (asked_key w values key), (met (Key (asked_key w values key))).1 (exact.1 h)),
+      );
 }
 
 shows_waits : Shows Blocks_it (λ o. o ≡ Waits)

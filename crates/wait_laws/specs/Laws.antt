@@ -23,7 +23,8 @@ use Rattle.row_locks.specs.Cycles.{blocks, Closes, NoCycle, AllEnd}
 use Rattle.update_recheck.specs.Asked.{Asked}
 use Rattle.update_recheck.specs.Outcome.{Version, Same, Gone, Newer, row_blockers as target_blockers, newest_version, target_outcome}
 use Rattle.update_recheck.specs.Outcome.Outcome.{Waits, Deadlocks}
-use Rattle.unique_keys.specs.Checks.{is_taken}
+use Rattle.unique_keys.specs.Checks.{taken_by}
+use Rattle.row_versions.specs.declared.write.Seen.{Seen}
 use Rattle.session_machine.specs.declared.session.OpenTransaction.{OpenTransaction}
 use Rattle.session_machine.specs.declared.session.Place.{Place}
 use Rattle.session_machine.specs.declared.session.Progress.{Progress}
@@ -32,7 +33,7 @@ use Rattle.session_machine.specs.declared.session.Session.{Session}
 use Rattle.session_machine.specs.declared.session.Transaction.{Transaction}
 use Rattle.session_machine.specs.declared.session.Transaction.TheVariants.{Open}
 use Rattle.session_machine.specs.declared.fault.StmtFault.{StmtFault}
-use Rattle.session_machine.specs.declared.fault.StmtFault.TheVariants.{Deadlock, KeyTaken}
+use Rattle.session_machine.specs.declared.fault.StmtFault.TheVariants.{Deadlock, KeyTaken, NotSerializable}
 use Rattle.session_machine.specs.declared.event.Event.{Event}
 use Rattle.session_machine.specs.declared.event.Event.TheVariants.{Step}
 use Rattle.session_machine.specs.declared.event.Mode.{Mode}
@@ -42,7 +43,7 @@ use Rattle.session_machine.specs.Views.{rows_shown}
 use Rattle.session_machine.specs.Transactions.{fresh, view_of}
 use Rattle.session_machine.specs.Waits.{blockers, is_blocked, waits_in, is_still_blocked}
 use Rattle.session_machine.specs.Statements.{Surroundings}
-use Rattle.session_machine.specs.Rows.{Work, columns_in, stop_at_key, table_named}
+use Rattle.session_machine.specs.Rows.{Work, Stops, PassesOver, columns_in, is_known, meet_key, table_named}
 use Rattle.session_machine.specs.Walks.{Blocked, Fails}
 use Rattle.session_machine.specs.Running.{run_stmt}
 use Rattle.session_machine.specs.Targets.{asked_key, passing_targets, taken_targets, going_on, names_at}
@@ -81,30 +82,42 @@ DeadlockIsExact = (c : Content) (held : List Held) (waits : List Waiting) (ask :
 abbrev pub key_holders : Database → Work → List Value → KeyTree → List TxId
 key_holders db w values key = blockers db (Key (asked_key w values key)) w.t.tx
 
--- another row of the table has the key, one that is committed or the transaction's own; a row that is replaced is left aside
+-- the version of another row of the table that has the key, one that is committed or the transaction's own; a row that is replaced is left aside
+abbrev pub another_with : Database → Work → List Value → Option RowId → KeyTree → Option Seen
+another_with db w values except key = taken_by db.content (record { 0 = w.table }) w.t.tx except values key.columns
+
 abbrev pub has_another : Database → Work → List Value → Option RowId → KeyTree → Bool
-has_another db w values except key = is_taken db.content (record { 0 = w.table }) w.t.tx except values key.columns
+has_another db w values except key = is_some (another_with db w values except key)
 
 -- the fault of a key that another row has, which names the key
 abbrev pub key_taken : Database → Work → List ℕ → KeyTree → StmtFault
 key_taken db w name key = KeyTaken (key_name name key.primary (names_at (columns_in db w) key.columns))
 
+-- another row has the key in this version, and nobody holds it
+abbrev pub IsTakenBy : Database → Work → List Value → Option RowId → KeyTree → Seen → Type 0
+IsTakenBy db w values except key version = (key_holders db w values key ≡ []) × (another_with db w values except key ≡ Some version)
+
 -- a statement is about to write a row with these values, and asks for one of its table's keys. It fails by a deadlock exactly where
 -- a wait for those that hold the key would close a cycle; it waits exactly where others hold it, and a wait for them closes none;
--- the key is taken exactly where nobody holds it and another row has it; and the key stops nothing exactly where nobody holds it
--- and no other row has it (5.5.3, 13.3.4)
-pub record KeyIsExactAt (db : Database) (w : Work) (name : List ℕ) (values : List Value) (except : Option RowId) (key : KeyTree) : Type 0 where
-  pub deadlocks : (stop_at_key db w name values except key ≡ Some (Fails Deadlock))
+-- the key stops nothing exactly where nobody holds it and no other row has it; and it is taken exactly where nobody holds it and another row has it:
+-- then the statement fails, or with ON CONFLICT DO NOTHING passes the row over, at Repeatable Read where it knows that version (5.5.3, 13.2.2, 13.3.4)
+pub record KeyIsExactAt (db : Database) (w : Work) (name : List ℕ) (do_nothing : Bool) (values : List Value) (except : Option RowId) (key : KeyTree) : Type 0 where
+  pub deadlocks : (meet_key db w name do_nothing values except key ≡ Some (Stops (Fails Deadlock)))
       ↔ Closes (blocks (waits_in db w.around.sessions)) w.t.tx (key_holders db w values key)
-  pub waits_else : (stop_at_key db w name values except key ≡ Some (Blocked (Key (asked_key w values key))))
+  pub waits_else : (meet_key db w name do_nothing values except key ≡ Some (Stops (Blocked (Key (asked_key w values key)))))
       ↔ ((key_holders db w values key ≢ []) × ¬ Closes (blocks (waits_in db w.around.sessions)) w.t.tx (key_holders db w values key))
-  pub taken : (stop_at_key db w name values except key ≡ Some (Fails (key_taken db w name key)))
-      ↔ ((key_holders db w values key ≡ []) × IsTrue (has_another db w values except key))
-  pub free : (stop_at_key db w name values except key ≡ None)
+  pub free : (meet_key db w name do_nothing values except key ≡ None)
       ↔ ((key_holders db w values key ≡ []) × (has_another db w values except key ≡ false))
+  pub taken : do_nothing ≡ false → (meet_key db w name do_nothing values except key ≡ Some (Stops (Fails (key_taken db w name key))))
+      ↔ ((version : Seen) × IsTakenBy db w values except key version)
+  pub passes_over : do_nothing ≡ true → (meet_key db w name do_nothing values except key ≡ Some PassesOver)
+      ↔ ((version : Seen) × IsTakenBy db w values except key version × ((w.t.level ≡ ReadCommitted) ⊎ IsTrue (is_known db w version)))
+  pub serializes : do_nothing ≡ true → (meet_key db w name do_nothing values except key ≡ Some (Stops (Fails NotSerializable)))
+      ↔ ((version : Seen) × IsTakenBy db w values except key version × (w.t.level ≡ RepeatableRead) × (is_known db w version ≡ false))
 
 abbrev pub KeyIsExact : Type 0
-KeyIsExact = (db : Database) (w : Work) (name : List ℕ) (values : List Value) (except : Option RowId) (key : KeyTree) → KeyIsExactAt db w name values except key
+KeyIsExact = (db : Database) (w : Work) (name : List ℕ) (do_nothing : Bool) (values : List Value) (except : Option RowId) (key : KeyTree)
+    → KeyIsExactAt db w name do_nothing values except key
 
 -- the lock that its transaction holds on a written row, at this strength
 abbrev pub lock_of_write : Strength → Write → Held

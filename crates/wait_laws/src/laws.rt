@@ -14,7 +14,7 @@ pub fn deadlock_is_exact()
 {}
 
 /// A key is answered as a deadlock exactly where a wait for its holders would close a cycle, and as a wait exactly where it is held and closes none; as taken and as free exactly
-/// where it is not held and another row has it or none.
+/// where it is not held and another row has it or none. At a taken one ON CONFLICT DO NOTHING passes the row over, or fails at Repeatable Read exactly where the transaction doesn't know the version.
 pub fn key_is_exact()
     ensures { KeyIsExact }
 {}

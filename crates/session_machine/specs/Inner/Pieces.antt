@@ -7,7 +7,7 @@ use Rattle.sql_trees.specs.declared.stmt.Lock.{Lock}
 use Rattle.sql_trees.specs.Statements.{StmtTree, ColumnTree, KeyTree, CreateTree, InsertTree, UpdateTree, DeleteTree, SelectTree, Selects, key_name}
 use Rattle.sql_values.specs.declared.value.Value.{Value}
 use Rattle.sql_values.specs.declared.fault.ValueFault.{ValueFault}
-use Rattle.query_results.specs.Queries.{AssignedColumn, select_exprs, undefined_among, wrong_position}
+use Rattle.query_results.specs.Queries.{AssignedColumn, returned_exprs, select_exprs, undefined_among, wrong_position}
 use Rattle.query_results.specs.Updates.{update_exprs}
 use Rattle.row_versions.specs.declared.names.TxId.{TxId}
 use Rattle.row_versions.specs.declared.names.RowId.{RowId}
@@ -27,8 +27,8 @@ use Rattle.session_machine.specs.Views.{rows_shown}
 use Rattle.session_machine.specs.Transactions.{fresh}
 use Rattle.session_machine.specs.Statements.{Surroundings, Effect, fails, answers}
 use Rattle.session_machine.specs.Walks.{Stop, Walk, Blocked, Fails}
-use Rattle.session_machine.specs.Rows.{Work, columns_in, cols_in, written, inserted}
-use Rattle.session_machine.specs.Inner.Statements.{checked, with_values, at_table, assigning, unless_undefined, insert_from, update_from, delete_from, lock_from, select_rows, unless_wrong, run_open, Visit, stops, goes_on, begun}
+use Rattle.session_machine.specs.Rows.{Work, Meets, Stops, Putting, columns_in, cols_in, does_nothing, written, inserted}
+use Rattle.session_machine.specs.Inner.Statements.{at_key, checked, with_values, at_table, assigning, unless_undefined, insert_from, update_from, delete_from, lock_from, select_rows, unless_wrong, run_open, Visit, stops, goes_on, begun}
 use Rattle.session_machine.specs.Targets.{asked_key, going_on, names_at}
 
 -- ---- parts of the catalog
@@ -69,11 +69,12 @@ shown_to db w = rows_shown db.content w.view w.table
 abbrev pub held_by_others : Database → Work → AskedKey → Stop
 held_by_others db w asked = if closes (waits_in db w.around.sessions) w.t.tx (blockers db (Key asked) w.t.tx) then Fails Deadlock else Blocked (Key asked)
 
--- what stops a statement at a key of which this is found
-abbrev pub stop_by : Database → Work → List ℕ → List Value → KeyTree → KeyFound → Option Stop
-stop_by db w name values key KeyIsFree = None
-stop_by db w name values key KeyIsTaken = Some (Fails (KeyTaken (key_name name key.primary (names_at (columns_in db w) key.columns))))
-stop_by db w name values key KeyIsHeld = Some (held_by_others db w (asked_key w values key))
+-- what a row meets at a key of which this is found
+abbrev pub meet_by : Database → Work → List ℕ → Bool → List Value → KeyTree → KeyFound → Option Meets
+meet_by db w name do_nothing values key KeyIsFree = None
+meet_by db w name do_nothing values key (KeyIsTaken version) =
+    Some (if do_nothing then does_nothing db w version else Stops (Fails (KeyTaken (key_name name key.primary (names_at (columns_in db w) key.columns)))))
+meet_by db w name do_nothing values key KeyIsHeld = Some (Stops (held_by_others db w (asked_key w values key)))
 
 -- ---- at a target
 
@@ -81,31 +82,33 @@ stop_by db w name values key KeyIsHeld = Some (held_by_others db w (asked_key w 
 abbrev pub unless_stopped : Visit → ℕ → List (List Value) → Option Stop → Walk → Walk
 unless_stopped v place rows stop behind = option_map_or (λ stop. record { db = v.db; place = place; rows = rows; stop = Some stop }) stop behind
 
--- the row is written where nothing stops the statement
-abbrev pub unless_stopped_by : Database → Database → Option Stop → Visit
-unless_stopped_by db after stop = option_map_or (stops db) stop (goes_on after [])
+-- the row is written where all its keys are free
+abbrev pub unless_met : Database → Visit → Option Meets → Visit
+unless_met db written met = option_map_or (at_key db) met written
 
 -- the row isn't written where it has NULL in a column that may not be
 abbrev pub unless_null : List ℕ → Database → Visit → Option (List ℕ) → Visit
 unless_null name db due null = option_map_or (λ column. stops db (Fails (NullValue column name))) null due
 
 -- what is done at a row whose values are these
-abbrev pub insert_made : Work → List ℕ → Database → Result (List Value) ValueFault → Visit
-insert_made w name db values = with_values db values (λ values. checked w name db None values (inserted db w values))
+abbrev pub insert_made : Work → Putting → Database → Result (List Value) ValueFault → Visit
+insert_made w put db values = with_values db values (λ values. checked w put db None values (inserted db w values))
 
-abbrev pub update_made : Work → List ℕ → Database → RowId → Result (List Value) ValueFault → Visit
-update_made w name db row values = with_values db values (λ values. checked w name db (Some row) values (written db w row (Some values)))
+abbrev pub update_made : Work → Putting → Database → RowId → Result (List Value) ValueFault → Visit
+update_made w put db row values = with_values db values (λ values. checked w put db (Some row) values (written db w row (Some values)))
 
-abbrev pub lock_made : Database → Result (List Value) ValueFault → Visit
-lock_made db values = with_values db values (λ row. goes_on db (row ∷ []))
+abbrev pub shown_made : Database → Result (List Value) ValueFault → Visit
+shown_made db values = with_values db values (λ row. goes_on db (row ∷ []))
 
 -- ---- before the targets
 
-abbrev pub insert_fitting : Database → Work → InsertTree → List AssignedColumn → Option (List ℕ) → Effect
-insert_fitting db w i to undefined = unless_undefined db w.t undefined (if list_any (λ row. nat_lt (length to) (length row)) i.rows then fails db w.t TooManyValues else insert_from db w i 0 [])
+abbrev pub insert_fitting : Database → Work → InsertTree → List AssignedColumn → Option (List ℕ) → Option (List ℕ) → Effect
+insert_fitting db w i to in_values in_returning = unless_undefined db w.t in_values (unless_undefined db w.t in_returning
+    (if list_any (λ row. nat_lt (length to) (length row)) i.rows then fails db w.t TooManyValues else insert_from db w i 0 []))
 
 abbrev pub insert_to : Database → Work → InsertTree → Result (List AssignedColumn) (List ℕ) → Effect
-insert_to db w i columns = assigning db w.t i.table columns (λ to. insert_fitting db w i to (undefined_among [] (flat_map (λ row. row) i.rows)))
+insert_to db w i columns = assigning db w.t i.table columns (λ to.
+    insert_fitting db w i to (undefined_among [] (flat_map (λ row. row) i.rows)) (undefined_among (cols_in db w) (returned_exprs i.returning)))
 
 abbrev pub update_fitting : Database → Work → UpdateTree → Option (List ℕ) → Effect
 update_fitting db w u undefined = unless_undefined db w.t undefined (update_from db w u 0 [])

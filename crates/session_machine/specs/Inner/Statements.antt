@@ -1,5 +1,5 @@
 -- Statements kind by kind: what the code's inner functions do, and what the proofs go by. `proofs/ByKind` shows that it is the same.
-use Rattle.std.specs.Prelude.{ℕ, ◌+◌, ◌++◌, ℤ, Bool, true, false, List, ◌∷◌, length, drop, flat_map, nat_lt, Option, Some, None, option_map, option_to_list, unwrap_or, slice_get, Result, Ok, Err, if◌then◌else◌, []}
+use Rattle.std.specs.Prelude.{ℕ, ◌+◌, ◌++◌, ℤ, Bool, true, false, List, ◌∷◌, length, drop, flat_map, nat_lt, Option, Some, None, option_map, unwrap_or, slice_get, Result, Ok, Err, if◌then◌else◌, []}
 use Rattle.std.specs.List.{list_any}
 use Rattle.std.specs.Option.{option_map_or, option_or}
 use Rattle.std.specs.Result.{result_unwrap_or}
@@ -9,14 +9,14 @@ use Rattle.sql_trees.specs.contracts.stmt.Level.{the_type as the_level}
 use Rattle.sql_trees.specs.declared.stmt.Level.TheVariants.{ReadCommitted, RepeatableRead}
 use Rattle.sql_trees.specs.declared.stmt.Lock.{Lock}
 use Rattle.sql_trees.specs.Trees.{Tree}
-use Rattle.sql_trees.specs.Statements.{KeyTree, StmtTree, CreateTree, InsertTree, UpdateTree, DeleteTree, SelectTree}
+use Rattle.sql_trees.specs.Statements.{ColumnTree, ItemTree, KeyTree, StmtTree, CreateTree, InsertTree, UpdateTree, DeleteTree, SelectTree}
 use Rattle.sql_trees.specs.Statements.{Begin, Commit, Rollback, SetTransaction, SetDeadlockTimeout, Create, DropTables, Inserts, Updates, Deletes, Selects}
 use Rattle.sql_values.specs.declared.value.Value.{Value}
 use Rattle.sql_values.specs.declared.fault.ValueFault.{ValueFault}
 use Rattle.sql_values.specs.declared.fault.ValueFault.TheVariants.{NoColumn}
 use Rattle.query_results.specs.Results.{Results}
-use Rattle.query_results.specs.Queries.{AssignedColumn, new_values, null_in, row_values, result_of, select_exprs, columns_assigned, titles_of, undefined_among, wrong_position}
-use Rattle.query_results.specs.Updates.{columns_set, update_exprs, updated}
+use Rattle.query_results.specs.Queries.{AssignedColumn, new_values, null_in, row_values, result_of, select_exprs, returned_exprs, columns_assigned, titles_of, undefined_among, wrong_position}
+use Rattle.query_results.specs.Updates.{columns_set, delete_exprs, update_exprs, updated}
 use Rattle.row_versions.specs.declared.names.RowId.{RowId}
 use Rattle.row_versions.specs.declared.write.Seen.{Seen}
 use Rattle.row_versions.specs.Log.{Content, commit_count, after_begin}
@@ -45,7 +45,7 @@ use Rattle.session_machine.specs.Waits.{waits_in}
 use Rattle.session_machine.specs.Statements.{Surroundings, Effect, fails, answers, turns, drop_tables, level_set}
 use Rattle.session_machine.specs.Walks.{Stop, Walk, Blocked, Fails}
 use Rattle.session_machine.specs.Targets.{going_on, passing_targets, taken_targets}
-use Rattle.session_machine.specs.Rows.{Work, columns_in, cols_in, values_of, written, inserted, stop_at_key, update_strength}
+use Rattle.session_machine.specs.Rows.{Work, Meets, Stops, PassesOver, Putting, columns_in, cols_in, values_of, written, inserted, meet_key, update_strength}
 
 -- ---- transactions
 
@@ -105,28 +105,37 @@ walked visit db place rows (x ∷ xs) =
 
 -- ---- at a row
 
-abbrev pub keys_in : Database → Work → List KeyTree
-keys_in db w = unwrap_or (option_map (λ (t : Table). t.made.keys) (slice_get db.catalog.tables w.table)) []
-
--- the first of its keys that isn't free stops the statement (5.5.3)
-abbrev pub stop_at_keys : Database → Work → List ℕ → List Value → Option RowId → List KeyTree → Option Stop
-stop_at_keys db w name values except [] = None
-stop_at_keys db w name values except (key ∷ keys) = option_or (stop_at_key db w name values except key) (stop_at_keys db w name values except keys)
-
--- a row with these values is about to be written, which makes this database: a NULL where none may be stops the statement, and then the first key that isn't free
-abbrev pub checked : Work → List ℕ → Database → Option RowId → List Value → Database → Visit
-checked w name db except values after =
-    option_map_or (λ column. stops db (Fails (NullValue column name))) (null_in (columns_in db w) values)
-    (option_map_or (stops db) (stop_at_keys db w name values except (keys_in db w)) (goes_on after []))
-
 -- the values of a row are evaluated, and then this is done with them
 abbrev pub with_values : Database → Result (List Value) ValueFault → (List Value → Visit) → Visit
 with_values db (Err fault) visit = stops db (Fails (OfValue fault))
 with_values db (Ok values) visit = visit values
 
+abbrev pub keys_in : Database → Work → List KeyTree
+keys_in db w = unwrap_or (option_map (λ (t : Table). t.made.keys) (slice_get db.catalog.tables w.table)) []
+
+-- the first of its keys that isn't free decides (5.5.3)
+abbrev pub meet_keys : Database → Work → Putting → List Value → Option RowId → List KeyTree → Option Meets
+meet_keys db w put values except [] = None
+meet_keys db w put values except (key ∷ keys) = option_or (meet_key db w put.table put.do_nothing values except key) (meet_keys db w put values except keys)
+
+-- what is answered for a row that was written or deleted
+abbrev pub shows : Work → Option (List ItemTree) → Database → List Value → Visit
+shows w None db row = goes_on db []
+shows w (Some items) db row = with_values db (row_values (cols_in db w) items row) (λ shown. goes_on db (shown ∷ []))
+
+abbrev pub at_key : Database → Meets → Visit
+at_key db (Stops stop) = stops db stop
+at_key db PassesOver = goes_on db []
+
+-- a row with these values is about to be written, which makes this database: a NULL where none may be stops the statement, and then the first key that isn't free decides
+abbrev pub checked : Work → Putting → Database → Option RowId → List Value → Database → Visit
+checked w put db except values after =
+    option_map_or (λ column. stops db (Fails (NullValue column put.table))) (null_in (columns_in db w) values)
+    (option_map_or (at_key db) (meet_keys db w put values except (keys_in db w)) (shows w put.returning after values))
+
 -- INSERT at a row of its VALUES: it is evaluated and assigned, its NULLs and then its keys are checked, and it is written
-abbrev pub insert_one : Work → List ℕ → List AssignedColumn → Database → List Tree → Visit
-insert_one w name to db row = with_values db (new_values (length (columns_in db w)) to row) (λ values. checked w name db None values (inserted db w values))
+abbrev pub insert_one : Work → Putting → List AssignedColumn → Database → List Tree → Visit
+insert_one w put to db row = with_values db (new_values (length (columns_in db w)) to row) (λ values. checked w put db None values (inserted db w values))
 
 -- one target, as it is asked for
 abbrev pub ask : Database → Work → Strength → Policy → Option Tree → Seen → Asked
@@ -150,24 +159,30 @@ at_outcome name act db a (Faults fault) = stops db (Fails (OfValue fault))
 abbrev pub at_target : List ℕ → (Database → Seen → Visit) → Database → Work → Asked → Visit
 at_target name act db w a = at_outcome name act (settled db w a) a (target_outcome db.content db.held (waits_in db w.around.sessions) a)
 
+abbrev pub put_insert : InsertTree → Putting
+put_insert i = record { table = i.table; do_nothing = i.do_nothing; returning = i.returning }
+
+abbrev pub put_update : UpdateTree → Putting
+put_update u = record { table = u.table; do_nothing = false; returning = u.returning }
+
 -- UPDATE with the version that it takes
 abbrev pub update_with : Work → UpdateTree → List AssignedColumn → Database → Seen → Visit
 update_with w u to db seen =
-    with_values db (updated (cols_in db w) to u.sets (values_of db seen)) (λ values. checked w u.table db (Some seen.row) values (written db w seen.row (Some values)))
+    with_values db (updated (cols_in db w) to u.sets (values_of db seen)) (λ values. checked w (put_update u) db (Some seen.row) values (written db w seen.row (Some values)))
 
 abbrev pub update_one : Work → UpdateTree → List AssignedColumn → Database → Seen → Visit
 update_one w u to db seen = at_target u.table (update_with w u to) db w (ask db w (update_strength db w to u seen.row) Wait u.filter seen)
 
 -- DELETE with the version that it takes
-abbrev pub delete_with : Work → Database → Seen → Visit
-delete_with w db seen = goes_on (written db w seen.row None) []
+abbrev pub delete_with : Work → DeleteTree → Database → Seen → Visit
+delete_with w d db seen = shows w d.returning (written db w seen.row None) (values_of db seen)
 
 abbrev pub delete_one : Work → DeleteTree → Database → Seen → Visit
-delete_one w d db seen = at_target d.table (delete_with w) db w (ask db w Update Wait d.filter seen)
+delete_one w d db seen = at_target d.table (delete_with w d) db w (ask db w Update Wait d.filter seen)
 
 -- a locking SELECT with the version that it takes
 abbrev pub lock_with : Work → SelectTree → Database → Seen → Visit
-lock_with w s db seen = with_values db (row_values (cols_in db w) s.items (values_of db seen)) (λ row. goes_on db (row ∷ []))
+lock_with w s db seen = shows w (Some s.items) db (values_of db seen)
 
 abbrev pub lock_one : Work → SelectTree → Lock → Database → Seen → Visit
 lock_one w s l db seen = at_target (unwrap_or s.table []) (lock_with w s) db w (ask db w l.strength l.policy s.filter seen)
@@ -203,8 +218,9 @@ comes_to before w outcome walk (Some (Fails fault)) = fails walk.db w.t fault
 abbrev pub after_walk : Content → Work → (List (List Value) → Outcome) → Walk → Effect
 after_walk before w outcome walk = comes_to before w outcome walk walk.stop
 
-abbrev pub done : List (List Value) → Outcome
-done rows = Done
+-- a statement with these items answers its rows, one without none
+abbrev pub answer : List ColumnTree → Option (List ItemTree) → List (List Value) → Outcome
+answer columns items rows = option_map_or (λ is. Rows (record { titles = titles_of columns is; rows = rows })) items Done
 
 -- no column is assigned where one isn't there
 abbrev pub assigned_to : Result (List AssignedColumn) (List ℕ) → List AssignedColumn
@@ -225,16 +241,19 @@ unless_undefined db t undefined due = option_map_or (λ name. fails db t (OfValu
 
 -- INSERT, from this place among the rows of its VALUES on
 abbrev pub insert_from : Database → Work → InsertTree → ℕ → List (List Value) → Effect
-insert_from db w i place rows = after_walk db.content w done (walked (insert_one w i.table (assigned_to (columns_assigned (columns_in db w) i.columns))) db place rows (drop place i.rows))
+insert_from db w i place rows =
+    after_walk db.content w (answer (columns_in db w) i.returning) (walked (insert_one w (put_insert i) (assigned_to (columns_assigned (columns_in db w) i.columns))) db place rows (drop place i.rows))
 
 -- INSERT at the table that is found; its VALUES may name no column, and none of their rows may have more of them than there are columns to assign
 abbrev pub insert : Database → OpenTransaction → Surroundings → InsertTree → Option ℕ → Effect
 insert db t around i found = at_table db t around i.table found (λ w. assigning db t i.table (columns_assigned (columns_in db w) i.columns) (λ to.
-    unless_undefined db t (undefined_among [] (flat_map (λ row. row) i.rows)) (if list_any (λ row. nat_lt (length to) (length row)) i.rows then fails db t TooManyValues else insert_from db w i 0 [])))
+    unless_undefined db t (undefined_among [] (flat_map (λ row. row) i.rows)) (unless_undefined db t (undefined_among (cols_in db w) (returned_exprs i.returning))
+    (if list_any (λ row. nat_lt (length to) (length row)) i.rows then fails db t TooManyValues else insert_from db w i 0 []))))
 
 -- UPDATE, from this place among its targets on
 abbrev pub update_from : Database → Work → UpdateTree → ℕ → List (List Value) → Effect
-update_from db w u place rows = after_walk db.content w done (walked_from (update_one w u (assigned_to (columns_set (columns_in db w) u.sets))) db place rows (passing_targets db w u.filter))
+update_from db w u place rows =
+    after_walk db.content w (answer (columns_in db w) u.returning) (walked_from (update_one w u (assigned_to (columns_set (columns_in db w) u.sets))) db place rows (passing_targets db w u.filter))
 
 -- UPDATE at the table that is found
 abbrev pub update : Database → OpenTransaction → Surroundings → UpdateTree → Option ℕ → Effect
@@ -243,16 +262,16 @@ update db t around u found = at_table db t around u.table found (λ w. assigning
 
 -- DELETE, from this place among its targets on
 abbrev pub delete_from : Database → Work → DeleteTree → ℕ → List (List Value) → Effect
-delete_from db w d place rows = after_walk db.content w done (walked_from (delete_one w d) db place rows (passing_targets db w d.filter))
+delete_from db w d place rows = after_walk db.content w (answer (columns_in db w) d.returning) (walked_from (delete_one w d) db place rows (passing_targets db w d.filter))
 
 -- DELETE at the table that is found
 abbrev pub delete : Database → OpenTransaction → Surroundings → DeleteTree → Option ℕ → Effect
-delete db t around d found = at_table db t around d.table found (λ w. unless_undefined db t (undefined_among (cols_in db w) (option_to_list d.filter)) (delete_from db w d 0 []))
+delete db t around d found = at_table db t around d.table found (λ w. unless_undefined db t (undefined_among (cols_in db w) (delete_exprs d)) (delete_from db w d 0 []))
 
 -- a locking SELECT, from this place among its targets on
 abbrev pub lock_from : Database → Work → SelectTree → Lock → ℕ → List (List Value) → Effect
 lock_from db w s l place rows =
-    after_walk db.content w (λ shown. Rows (record { titles = titles_of (columns_in db w) s.items; rows = shown })) (walked_from (lock_one w s l) db place rows (taken_targets db w s))
+    after_walk db.content w (answer (columns_in db w) (Some s.items)) (walked_from (lock_one w s l) db place rows (taken_targets db w s))
 
 -- a SELECT has this result
 abbrev pub answered : Database → OpenTransaction → Result Results ValueFault → Effect

@@ -63,8 +63,12 @@ abbrev pub undefined_in_select : Cols → SelectTree → Option (List ℕ)
 undefined_in_select cols s =
     option_or (first_of (undefined_in_item cols) s.items) (option_or (undefined_in_condition cols s.filter) (first_of (λ (k : OrderTree). undefined_column cols (meant s.items k.expr)) s.order))
 
-abbrev pub undefined_in_update : Cols → UpdateTree → Option (List ℕ)
-undefined_in_update cols u = option_or (first_of (λ (s : SetTree). undefined_column cols s.value) u.sets) (undefined_in_condition cols u.filter)
+abbrev pub undefined_in_returned : Cols → Option (List ItemTree) → Option (List ℕ)
+undefined_in_returned cols None = None
+undefined_in_returned cols (Some items) = first_of (undefined_in_item cols) items
+
+abbrev pub undefined_in_changes : Cols → UpdateTree → Option (List ℕ)
+undefined_in_changes cols u = option_or (first_of (λ (s : SetTree). undefined_column cols s.value) u.sets) (undefined_in_condition cols u.filter)
 
 -- the number that a key is, if it is one and none of the result's columns, which are counted from 1
 abbrev pub unlisted : ℕ → Tree → Option ℤ

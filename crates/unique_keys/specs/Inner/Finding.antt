@@ -1,6 +1,6 @@
 -- Who stands in the way of a key, and which row has it, as the code finds it. What has committed and what is open is asked of two tests, so that the same is said of
 -- the log and of what is noted of it.
-use Rattle.std.specs.Prelude.{ℕ, ◌==◌, Bool, true, false, not, ◌&&◌, ◌||◌, List, Option, Some, map, filter, find, reverse, slice_get}
+use Rattle.std.specs.Prelude.{ℕ, ◌==◌, Bool, true, false, not, ◌&&◌, ◌||◌, List, Option, Some, map, filter, find, option_map, reverse, slice_get}
 use Rattle.std.specs.List.{list_all, list_any}
 use Rattle.std.specs.Ordering.{is_eq}
 use Rattle.std.specs.Option.{option_map_or}
@@ -68,11 +68,14 @@ newest_has committed ws columns asked row tx = version_has columns asked (last_o
 abbrev pub is_another : Option RowId → RowId → Bool
 is_another except row = option_map_or (λ (other : RowId). not (row.0 == other.0)) except true
 
--- it is a write of another row of the table whose newest version for the transaction has the key
+-- the write gave the key to another row of the table, whose newest version for the transaction has it
 abbrev pub takes : (TxId → Bool) → List Noted → TableId → TxId → Option RowId → List Value → List ℕ → Noted → Bool
 takes committed ws table tx except asked columns w =
-    ((w.table.0 == table.0) && (is_another except w.row && counts_for committed tx w)) && newest_has committed ws columns asked w.row tx
+    ((w.table.0 == table.0) && (is_another except w.row && (counts_for committed tx w && has_key columns asked w.values))) && newest_has committed ws columns asked w.row tx
 
--- some other row of the table has the key
-abbrev pub is_taken_among : (TxId → Bool) → List Noted → TableId → TxId → Option RowId → List Value → List ℕ → Bool
-is_taken_among committed ws table tx except asked columns = list_any (takes committed ws table tx except asked columns) ws
+abbrev pub row_noted : Option Noted → Option RowId
+row_noted o = option_map (λ (w : Noted). w.row) o
+
+-- the row that was first given the key, of those that have it
+abbrev pub taker_among : (TxId → Bool) → List Noted → TableId → TxId → Option RowId → List Value → List ℕ → Option RowId
+taker_among committed ws table tx except asked columns = row_noted (find (takes committed ws table tx except asked columns) ws)
