@@ -30,6 +30,8 @@ mod sessions;
 #[cfg(test)]
 mod sizes;
 #[cfg(test)]
+mod strengths;
+#[cfg(test)]
 mod tables;
 #[cfg(test)]
 mod trial;

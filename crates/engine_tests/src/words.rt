@@ -135,6 +135,7 @@ fn behind_fault<'w>(words: Option<&'w str>, fault: &StmtFault<'static>) -> Optio
         StmtFault::NoPosition(_) => behind(words, " no position"),
         StmtFault::NotSerializable => behind(words, " not serializable"),
         StmtFault::Deadlock => behind(words, " deadlock"),
+        StmtFault::NotFree(table) => behind_named(words, " not free ", table),
         StmtFault::Aborted => behind(words, " aborted"),
         StmtFault::LevelTooLate => behind(words, " too late"),
     }

@@ -34,7 +34,7 @@ fn prints(alloc: Global, fault: StmtFault<'_>, wanted: &str) -> Result<bool, &'s
     Ok(is_error(run.out.text(), wanted))
 }
 
-const TEXTS: [&str; 12] = [
+const TEXTS: [&str; 13] = [
     "column \"c\" of relation \"t\" does not exist",
     "relation \"t\" does not exist",
     "table \"t\" does not exist",
@@ -47,6 +47,7 @@ const TEXTS: [&str; 12] = [
     "ORDER BY position -3 is not in select list",
     "could not serialize access due to concurrent update",
     "deadlock detected",
+    "could not obtain lock on row in relation \"t\"",
 ];
 
 /// The name of a key, copied once.
@@ -76,7 +77,8 @@ fn fault(alloc: Global, place: usize) -> Result<StmtFault<'static>, AllocError> 
         8 => StmtFault::LevelTooLate,
         9 => StmtFault::NoPosition(-3),
         10 => StmtFault::NotSerializable,
-        _ => StmtFault::Deadlock,
+        11 => StmtFault::Deadlock,
+        _ => StmtFault::NotFree(t()),
     })
 }
 

@@ -13,7 +13,7 @@ ghost use Rattle.row_versions.specs.declared.write.Seen.{Seen as SeenFacts};
 ghost use Rattle.row_versions.specs.Rows.{rows_of};
 ghost use Rattle.session_machine.specs.Inner.Pieces.{table_columns, with_table, with_drop};
 ghost use Rattle.session_machine.specs.declared.session.OpenTransaction.{OpenTransaction as OpenFacts};
-ghost use Rattle.session_machine.specs.Rows.{columns_in, inserted, values_of, written};
+ghost use Rattle.session_machine.specs.Rows.{columns_in, inserted, newest_values, values_of, written};
 ghost use Rattle.session_machine.specs.Inner.Statements.{beginning, keys_in, begun, first_commits, commits_seen, moved_on};
 ghost use Rattle.session_machine.specs.Targets.{seen_by};
 ghost use Rattle.session_machine.specs.Machine.{empty_database, visible_to};
@@ -21,10 +21,10 @@ ghost use Rattle.session_machine.specs.Machine.{empty_database, visible_to};
 use crate::catalog::Catalog;
 use crate::work::{Surroundings, Work};
 use iso_lexer::Name;
-use row_locks::{LockTable, Strength};
+use row_locks::LockTable;
 use row_versions::{RowId, Seen, TableId, TxId, Versions, View};
 use session_machine::{OpenTransaction, Request, Session, Transaction};
-use sql_trees::{Column, CreateTable, Key, Level};
+use sql_trees::{Column, CreateTable, Key, Level, Strength};
 use sql_values::Row;
 use std::alloc::{AllocError, Global};
 use std::marker::Model;
@@ -204,13 +204,13 @@ impl<'a, 't, V: Versions> Database<'a, 't, V> {
         Ok(())
     }
 
-    /// Writes a new row of the statement's table, which its transaction holds alone.
+    /// Writes a new row of the statement's table, which its transaction holds at Update.
     pub fn add_row(&mut self, work: &Work<'_>, values: Row) -> Result<(), AllocError>
         requires opened { IsOpen self.old.content work.now.t.tx }
         ensures { OnOk result (self.new ≡ inserted self.old work.now values) }
     {
         let row = self.write(work, None, Some(values))?;
-        self.locks.take(row, work.by.tx, Strength::Exclusive)
+        self.locks.take(row, work.by.tx, Strength::Update)
     }
 
     fn first_commits(&self, by: &OpenTransaction) -> u64
@@ -324,6 +324,14 @@ impl<'a, 't, V: Versions> Database<'a, 't, V> {
         ensures { result.now ≡ values_of self.now version.now }
     {
         self.store.values(version).unwrap_or(&self.empty)
+    }
+
+    /// The values of the row's newest version for the statement's transaction, unless that deletes the row. It takes no memory.
+    pub fn newest_values(&self, work: &Work<'_>, row: RowId) -> Option<&Row>
+        ensures { option_copied result ≡ newest_values self.now work.now row }
+    {
+        let newest = self.store.newest(row, work.by.tx)?;
+        self.store.values(&newest)
     }
 
     /// What a statement finds that begins at the table of this place: its view is taken now.

@@ -1,18 +1,19 @@
 //! The waits of the present state.
 
-ghost use Rattle.std.specs.Prelude.{◌≡◌, ◌||◌, ◌&&◌, IfOk, OnOk};
+ghost use Rattle.std.specs.Prelude.{◌≡◌, ◌||◌, ◌&&◌, true, IfOk, OnOk};
 ghost use Rattle.row_versions.specs.declared.names.TxId.{TxId as TxFacts};
 ghost use Rattle.row_locks.specs.Laws.{SamePairs};
 ghost use Rattle.row_locks.specs.Cycles.{blocks};
-ghost use Rattle.session_machine.specs.Waits.{blockers, waiting_in, waits_in};
+ghost use Rattle.session_machine.specs.Waits.{blockers, is_blocked, waiting_in, waits_in};
 ghost use Rattle.row_versions.specs.Members.{has, same_tx};
 ghost use Rattle.session_database.specs.Inner.Waits.{stands_in_way_of};
 
 use crate::database::Database;
-use crate::work::Surroundings;
+use crate::work::{Surroundings, Work};
 use row_locks::Waits;
-use row_versions::{TxId, Versions};
+use row_versions::{RowId, TxId, Versions};
 use session_machine::{Request, Session, Transaction};
+use sql_trees::{Policy, Strength};
 use std::alloc::AllocError;
 
 impl<'a, 't, V: Versions> Database<'a, 't, V> {
@@ -53,5 +54,24 @@ impl<'a, 't, V: Versions> Database<'a, 't, V> {
             self.add_wait(&mut waits, session)?;
         }
         Ok(waits)
+    }
+    /// The waits that bear on a row which a statement wants this strongly: all that stand, where others hold it in conflict and the statement waits for them. Else they
+    /// don't matter, and none are told.
+    pub fn waits_at(
+        &self,
+        work: &Work<'_>,
+        row: RowId,
+        strength: Strength,
+        policy: Policy,
+    ) -> Result<Waits, AllocError>
+        ensures { IfOk result (λ waits. is_blocked self.now (Request.Row row strength) work.now.t.tx ≡ true → policy ≡ Policy.Wait
+            → SamePairs waits (waits_in self.now work.now.around.sessions)) }
+    {
+        match policy {
+            Policy::Wait if self.locks.is_blocked(row, work.by.tx, strength) => {
+                self.waits_now(work.around)
+            }
+            _ => Ok(Waits::new(self.alloc)),
+        }
     }
 }

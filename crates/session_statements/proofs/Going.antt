@@ -8,7 +8,7 @@ use Rattle.sql_trees.specs.Statements.{ColumnTree, StmtTree, InsertTree, UpdateT
 use Rattle.sql_values.specs.declared.value.Value.{Value}
 use Rattle.sql_values.specs.declared.fault.ValueFault.{ValueFault}
 use Rattle.row_versions.specs.declared.write.Seen.{Seen}
-use Rattle.row_locks.specs.declared.held.Strength.TheVariants.{Share}
+use Rattle.sql_trees.specs.declared.stmt.Strength.TheVariants.{Share}
 use Rattle.query_results.specs.Results.{Results}
 use Rattle.query_results.specs.Queries.{result_of, taken}
 use Rattle.session_machine.specs.declared.session.OpenTransaction.{OpenTransaction}
@@ -22,7 +22,7 @@ use Rattle.session_machine.specs.Tables.{Database, find_table}
 use Rattle.session_machine.specs.Views.{rows_shown}
 use Rattle.session_machine.specs.Walks.{Walk}
 use Rattle.session_machine.specs.Statements.{Effect, Surroundings, answers, fails}
-use Rattle.session_machine.specs.Rows.{Work, columns_in, strength_of, over_targets}
+use Rattle.session_machine.specs.Rows.{Work, columns_in, over_targets}
 use Rattle.session_machine.specs.Running.{at_once, begin_at, fault_in, leads_to, run_in}
 use Rattle.session_machine.specs.Inner.Statements.{walked_from, beginning, answered, insert_from, update_from, delete_from, lock_from, select, Visit, walked}
 use Rattle.session_machine.specs.Inner.Pieces.{table_columns}
@@ -69,7 +69,7 @@ stands w place rows = record { table = record { 0 = w.table }; view = w.view; pl
 -- the walk of a locking SELECT
 abbrev locked : Database → Work → ℕ → List (List Value) → SelectTree → Lock → Walk
 locked db w place rows s l =
-    over_targets w (Selects s) (strength_of l) s.filter (record { db = db; place = place; rows = rows; stop = None })
+    over_targets w (Selects s) (record { db = db; place = place; rows = rows; stop = None })
     (taken s (columns_in db w) (rows_shown db.content w.view w.table))
 
 module _ (db : Database) (w : Work) (place : ℕ) (rows : List (List Value)) where

@@ -20,8 +20,7 @@ use Rattle.row_versions.proofs.Last.{newest_is_the_last}
 use Rattle.session_machine.specs.Tables.{Database, Catalog, Table}
 use Rattle.session_machine.specs.Inner.Pieces.{table_columns}
 use Rattle.session_machine.specs.Sound.{RowsFit, RowsStay}
-use Rattle.session_machine.specs.Rows.{cols_in}
-use Rattle.session_machine.specs.Rows.{Work, columns_in}
+use Rattle.session_machine.specs.Rows.{Work, cols_in, columns_in, newest_values}
 use Rattle.session_statements.specs.Inner.Keeping.{RowIn, RowsIn, IsOrderly}
 
 -- the columns of the table at a place
@@ -85,3 +84,11 @@ newest_fits db w row tx orderly its m values is has =
     as_many db.content db.catalog w.table m.place h.write values orderly.0 h.there (sym (its_values db.content m.place h.write h.there) ∙ has)
     (in_table db.content w.table row m.place h.write orderly.1 its h.there h.its_row)
     ∙ sym (length-map (columns_in db w) _)
+
+-- the values of the newest version that a transaction finds of a row of the table, likewise
+pub newest_values_fit : (db : Database) (w : Work) (row : RowId) → IsOrderly db → RowIn db.content w.table row → (values : List Value) → newest_values db w row ≡ Some values
+    → length values ≡ length (columns_in db w)
+newest_values_fit db w row orderly its values has = by (newest_of db.content row w.t.tx) refl has where
+  by : (o : Option Seen) → newest_of db.content row w.t.tx ≡ o → option_and_then (λ (m : Seen). values_at db.content m.place) o ≡ Some values → length values ≡ length (columns_in db w)
+  by None is has = cc
+  by (Some m) is has = newest_fits db w row w.t.tx orderly its m values is has ∙ length-map (columns_in db w) _

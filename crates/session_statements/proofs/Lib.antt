@@ -4,4 +4,5 @@ pub mod Lists
 pub mod Lent
 pub mod Keeping
 pub mod Visiting
+pub mod Waited
 pub mod Inserting

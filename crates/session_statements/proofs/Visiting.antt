@@ -1,12 +1,16 @@
 -- What a visit keeps true of the database, and which versions a target can take.
 use Rattle.std.proofs.Common.{◌≡◌, ℕ, suc, ◌<◌, ◌≤◌, ◌+◌, ◌==◌, Bool, true, false, List, [], ◌∷◌, ◌++◌, get_or, zero, length, length-append, drop, refl, ap, sym, ◌∙◌, subst, arith, inl, inr, ◌⊎◌}
 use Rattle.std.specs.Prelude.{Option, Some, None, slice_get, unwrap_or, Result, Ok, Err, if◌then◌else◌}
+use Rattle.std.specs.Option.{option_map_or}
 use Rattle.std.proofs.lemmas.Bool.{cases_eq, eqb-true}
 use Rattle.std.proofs.lemmas.List.{length-map}
 use Rattle.std.proofs.lemmas.Option.{slice_get_cases, slice_get_within, same_Some}
 use Rattle.sql_trees.specs.Statements.{UpdateTree, update_of}
 use Rattle.sql_trees.specs.declared.stmt.Level.{Level}
 use Rattle.sql_trees.specs.declared.stmt.Level.TheVariants.{ReadCommitted, RepeatableRead}
+use Rattle.sql_trees.specs.declared.stmt.Strength.{Strength}
+use Rattle.sql_trees.specs.declared.stmt.Policy.{Policy}
+use Rattle.sql_trees.specs.declared.stmt.Policy.TheVariants.{Wait, NoWait, SkipLocked}
 use Rattle.sql_values.specs.declared.value.Value.{Value}
 use Rattle.sql_values.specs.declared.row.Row.{Row}
 use Rattle.sql_values.specs.declared.fault.ValueFault.{ValueFault}
@@ -16,35 +20,33 @@ use Rattle.row_versions.specs.declared.write.Write.{Write}
 use Rattle.row_versions.specs.declared.write.Seen.{Seen}
 use Rattle.row_versions.specs.Log.{Content, values_at, after_write}
 use Rattle.row_versions.specs.Newest.{newest_of}
+use Rattle.row_versions.specs.Members.{is_none_of}
 use Rattle.row_versions.specs.Laws.{IsNewest}
 use Rattle.row_versions.proofs.Last.{newest_is_the_last}
 use Rattle.row_versions.proofs.Gets.{get-append_left, get-append_last}
 use Rattle.row_locks.specs.declared.held.Held.{Held}
 use Rattle.row_locks.specs.Waiting.{Waiting}
+use Rattle.row_locks.specs.Cycles.{closes}
 use Rattle.query_results.specs.Queries.{AssignedColumn, null_in}
 use Rattle.query_results.specs.Updates.{updated}
 use Rattle.query_results.proofs.Placing.{length-updated}
 use Rattle.update_recheck.specs.Asked.{Asked}
-use Rattle.update_recheck.specs.Outcome.{Version, Outcome, version_at, newest_version, target_outcome}
-use Rattle.update_recheck.specs.Inner.Stopping.{version_of}
-use Rattle.update_recheck.specs.Inner.Cases.{Holders, rechecked, outcome, holders}
-use Rattle.update_recheck.specs.Inner.Cases.Holders.{Nobody, Others, OthersInACycle}
-use Rattle.update_recheck.proofs.Cases.{outcome_is}
+use Rattle.update_recheck.specs.Outcome.{Version, Outcome, outcome, row_blockers, held_by, stop, version_at, newest_version, target_outcome}
 use Rattle.update_recheck.specs.Outcome.Version.{Same, Gone, Newer}
-use Rattle.update_recheck.specs.Outcome.Outcome.{Takes, Skips, Waits, Deadlocks, Serializes, Faults}
+use Rattle.update_recheck.specs.Outcome.Outcome.{Takes, Skips, Waits, Deadlocks, NotFree, Serializes, Faults}
 use Rattle.session_machine.specs.Tables.{Database, Catalog, Table}
 use Rattle.session_machine.specs.Walks as walk
 use Rattle.session_machine.specs.Walks.{Walk}
 use Rattle.session_machine.specs.Waits.{waits_in}
 use Rattle.session_machine.specs.Rows.{Work, columns_in, cols_in, values_of, written}
-use Rattle.session_machine.specs.Inner.Statements.{keys_in, stop_at_keys, settled, at_outcome, Visit, goes_on, walked}
+use Rattle.session_machine.specs.Inner.Statements.{keys_in, stop_at_keys, settled, at_outcome, at_target, Visit, goes_on, walked}
 use Rattle.session_machine.specs.Inner.Pieces.{unless_stopped, unless_null, unless_stopped_by, update_made, lock_made}
 use Rattle.session_machine.specs.Sound.{RowsFit, RowsStay}
 use Rattle.session_statements.specs.declared.act.Act.{Act}
 use Rattle.session_statements.specs.declared.act.Act.TheVariants.{Update, Delete, Lock}
 use Rattle.session_statements.specs.declared.act.Visited.{Visited}
 use Rattle.session_statements.specs.declared.act.Visited.TheVariants.{Passes, Shows, Stops}
-use Rattle.session_statements.specs.Inner.Acting.{act_with, asks, visit_at, visit_of}
+use Rattle.session_statements.specs.Inner.Acting.{act_with, asked_at, asks, strength_in, table_in, visit_at, visit_of}
 use Rattle.session_statements.specs.Inner.Keeping.{RowIn, RowsIn, IsOrderly, IsKept, CanTake}
 use Rattle.session_statements.proofs.Keeping.{columns_are, newest_fits}
 use Rattle.session_statements.proofs.Lists.{drop_at}
@@ -60,26 +62,32 @@ OfVersion P found Same = P found
 OfVersion P found Gone = Unit {0}
 OfVersion P found (Newer m condition) = P m
 
-rechecked_comes : (P : Seen → Type 0) (m : Seen) (r : Result Bool ValueFault) → P m → Comes P (rechecked m r)
-rechecked_comes P m (Ok true) h = h
-rechecked_comes P m (Ok false) h = tt
-rechecked_comes P m (Err fault) h = tt
+-- what stops a target takes no version
+held_comes : (P : Seen → Type 0) (policy : Policy) (closing : Bool)
+    → Comes P (elim policy [ Wait ↦ if closing then Deadlocks else Waits | NoWait ↦ NotFree | SkipLocked ↦ Skips ])
+held_comes P Wait true = tt
+held_comes P Wait false = tt
+held_comes P NoWait closing = tt
+held_comes P SkipLocked closing = tt
 
-outcome_comes : (P : Seen → Type 0) (level : Level) (found : Seen) (h : Holders) (v : Version) → OfVersion P found v → Comes P (outcome level found h v)
-outcome_comes P ReadCommitted found OthersInACycle v p = tt
-outcome_comes P ReadCommitted found Others v p = tt
-outcome_comes P ReadCommitted found Nobody Gone p = tt
-outcome_comes P ReadCommitted found Nobody Same p = p
-outcome_comes P ReadCommitted found Nobody (Newer m r) p = rechecked_comes P m r p
-outcome_comes P RepeatableRead found OthersInACycle Gone p = tt
-outcome_comes P RepeatableRead found Others Gone p = tt
-outcome_comes P RepeatableRead found Nobody Gone p = tt
-outcome_comes P RepeatableRead found OthersInACycle (Newer m r) p = tt
-outcome_comes P RepeatableRead found Others (Newer m r) p = tt
-outcome_comes P RepeatableRead found Nobody (Newer m r) p = tt
-outcome_comes P RepeatableRead found OthersInACycle Same p = tt
-outcome_comes P RepeatableRead found Others Same p = tt
-outcome_comes P RepeatableRead found Nobody Same p = p
+stop_comes : (P : Seen → Type 0) (nobody : Bool) (held : Outcome) (o : Outcome) → Comes P held → (if nobody then None else Some held) ≡ Some o → Comes P o
+stop_comes P true held o h e = cc
+stop_comes P false held o h e = subst (Comes P) (same_Some held o e) h
+
+outcome_comes : (P : Seen → Type 0) (level : Level) (found : Seen) (s : Option Outcome) (v : Version) → ((o : Outcome) → s ≡ Some o → Comes P o) → OfVersion P found v
+    → Comes P (outcome level found s v)
+outcome_comes P level found (Some o) Same h p = h o refl
+outcome_comes P level found None Same h p = p
+outcome_comes P RepeatableRead found s Gone h p = tt
+outcome_comes P RepeatableRead found s (Newer m r) h p = tt
+outcome_comes P ReadCommitted found (Some o) Gone h p = h o refl
+outcome_comes P ReadCommitted found None Gone h p = tt
+outcome_comes P ReadCommitted found (Some o) (Newer m (Ok true)) h p = h o refl
+outcome_comes P ReadCommitted found None (Newer m (Ok true)) h p = p
+outcome_comes P ReadCommitted found (Some o) (Newer m (Ok false)) h p = h o refl
+outcome_comes P ReadCommitted found None (Newer m (Ok false)) h p = tt
+outcome_comes P ReadCommitted found (Some o) (Newer m (Err fault)) h p = h o refl
+outcome_comes P ReadCommitted found None (Newer m (Err fault)) h p = tt
 
 at_place : (P : Seen → Type 0) (found m : Seen) (r : Result Bool ValueFault) (b : Bool) → (m.place == found.place) ≡ b → P m → (m.place ≡ found.place → P found)
     → OfVersion P found (if b then Same else Newer m r)
@@ -92,7 +100,7 @@ version_comes P c a m None e h = tt
 version_comes P c a m (Some values) e h = at_place P a.seen m _ (m.place == a.seen.place) refl (h values e).0 (h values e).1
 
 newest_comes : (P : Seen → Type 0) (c : Content) (a : Asked) (o : Option Seen)
-    → ((m : Seen) → o ≡ Some m → (values : List Value) → values_at c m.place ≡ Some values → P m × (m.place ≡ a.seen.place → P a.seen)) → OfVersion P a.seen (version_of c a o)
+    → ((m : Seen) → o ≡ Some m → (values : List Value) → values_at c m.place ≡ Some values → P m × (m.place ≡ a.seen.place → P a.seen)) → OfVersion P a.seen (option_map_or (λ (m : Seen). version_at a m (values_at c m.place)) o Gone)
 newest_comes P c a None h = tt
 newest_comes P c a (Some m) h = version_comes P c a m (values_at c m.place) refl (h m refl)
 
@@ -100,13 +108,14 @@ newest_comes P c a (Some m) h = version_comes P c a m (values_at c m.place) refl
 abbrev pub IsFit : Database → Work → Seen → Type 0
 IsFit db w seen = RowIn db.content w.table seen.row × (length (values_of db seen) ≡ length (columns_in db w))
 
-pub outcome_fits : (db : Database) (w : Work) (act : Act) (seen : Seen) (waits : List Waiting) → IsOrderly db → RowIn db.content w.table seen.row
-    → Comes (IsFit db w) (target_outcome db.content db.held waits (asks db w act seen))
-outcome_fits db w act seen waits orderly its =
-    let a = asks db w act seen in
-    subst (Comes (IsFit db w)) (sym (outcome_is db.content db.held waits a))
-    (outcome_comes (IsFit db w) w.t.level seen (holders db.held waits a) (newest_version db.content a)
-    (newest_comes (IsFit db w) db.content a (newest_of db.content seen.row w.t.tx) newest)) where
+pub outcome_fits : (db : Database) (w : Work) (act : Act) (strength : Strength) (seen : Seen) (waits : List Waiting) → IsOrderly db → RowIn db.content w.table seen.row
+    → Comes (IsFit db w) (target_outcome db.content db.held waits (asked_at db w act strength seen))
+outcome_fits db w act strength seen waits orderly its =
+    let a = asked_at db w act strength seen in
+    let by = row_blockers db.held a in
+    outcome_comes (IsFit db w) w.t.level seen (stop db.held waits a) (newest_version db.content a)
+    (λ o e. stop_comes (IsFit db w) (is_none_of by) (held_by waits a by) o (held_comes (IsFit db w) a.policy (closes waits a.tx by)) e)
+    (newest_comes (IsFit db w) db.content a (newest_of db.content seen.row w.t.tx) newest) where
       long : (m : Seen) (values : List Value) → newest_of db.content seen.row w.t.tx ≡ Some m → values_at db.content m.place ≡ Some values → length (values_of db m) ≡ length (columns_in db w)
       long m values e has =
           ap (λ (o : Option (List Value)). length (unwrap_or o [])) has
@@ -128,16 +137,28 @@ can_take_of db held w (Takes seen) h = h.1
 can_take_of db held w Skips h = tt
 can_take_of db held w Waits h = tt
 can_take_of db held w Deadlocks h = tt
+can_take_of db held w NotFree h = tt
 can_take_of db held w Serializes h = tt
 can_take_of db held w (Faults fault) h = tt
 
 -- the version that a target takes has a value for each column
-pub can_take : (db e : Database) (w : Work) (act : Act) (seen : Seen) (o : Outcome) → IsOrderly db → RowIn db.content w.table seen.row
-    → e ≡ settled db w (asks db w act seen) → o ≡ target_outcome db.content db.held (waits_in db w.around.sessions) (asks db w act seen) → CanTake e w o
-can_take db e w act seen o orderly its same is =
+pub can_take : (db e : Database) (w : Work) (act : Act) (strength : Strength) (seen : Seen) (o : Outcome) → IsOrderly db → RowIn db.content w.table seen.row
+    → e ≡ settled db w (asked_at db w act strength seen) → o ≡ target_outcome db.content db.held (waits_in db w.around.sessions) (asked_at db w act strength seen) → CanTake e w o
+can_take db e w act strength seen o orderly its same is =
     subst (λ d. CanTake d w o) (sym same)
-    (can_take_of db (settled db w (asks db w act seen)).held w o
-    (subst (Comes (IsFit db w)) (sym is) (outcome_fits db w act seen (waits_in db w.around.sessions) orderly its)))
+    (can_take_of db (settled db w (asked_at db w act strength seen)).held w o
+    (subst (Comes (IsFit db w)) (sym is) (outcome_fits db w act strength seen (waits_in db w.around.sessions) orderly its)))
+
+-- a target that was settled as it was wanted is visited
+pub visited : (db e : Database) (w : Work) (act : Act) (strength : Strength) (seen : Seen) (o : Outcome) → strength ≡ strength_in db w act seen.row
+    → e ≡ settled db w (asked_at db w act strength seen) → o ≡ target_outcome db.content db.held (waits_in db w.around.sessions) (asked_at db w act strength seen)
+    → at_outcome (table_in act) (act_with w act) e (asked_at e w act strength seen) o ≡ visit_at w act db seen
+visited db e w act strength seen o wanted same is =
+    let name = table_in act in
+    let does = act_with w act in
+    ap (λ (d : Database). at_outcome name does d (asked_at d w act strength seen) o) same
+    ∙ ap (at_outcome name does (settled db w (asked_at db w act strength seen)) (asked_at db w act strength seen)) is
+    ∙ ap (λ (x : Strength). at_target name does db w (asked_at db w act x seen)) wanted
 
 get-append_at : {A : Type 0} (xs ys : List A) (i : ℕ) (x : A) → slice_get xs i ≡ Some x → slice_get (xs ++ ys) i ≡ Some x
 get-append_at [] ys i x h = cc
@@ -244,18 +265,19 @@ lock_keeps db (Ok row) h = kept_here db h
 act_keeps : (w : Work) (act : Act) (db : Database) (seen : Seen) → CanAct db w seen → IsKept db (act_with w act db seen).db
 act_keeps w (Update u targets) db seen h = update_keeps w (update_of u.now) targets.now db seen _ refl h
 act_keeps w (Delete d) db seen h = kept_written db w seen.row None h.0 h.1 h.2.0 (λ vs is. absurd (none_some vs is))
-act_keeps w (Lock s strength) db seen h = lock_keeps db _ h.1
+act_keeps w (Lock s l) db seen h = lock_keeps db _ h.1
 
 -- more locks
 kept_held : (db : Database) (held : List Held) → IsOrderly db → IsKept db (record db { held = held })
 kept_held db held orderly = record { fates = refl; catalog = refl; orderly = orderly; rows = λ row k h. h }
 
 outcome_keeps : (w : Work) (act : Act) (db : Database) (held : List Held) (a : Asked) (o : Outcome) → w.table < length db.catalog.tables → IsOrderly db → Comes (IsFit db w) o
-    → (let d : Database = record db { held = held } in IsKept d (at_outcome (act_with w act) d a o).db)
+    → (let d : Database = record db { held = held } in IsKept d (at_outcome (table_in act) (act_with w act) d a o).db)
 outcome_keeps w act db held a (Takes seen) within orderly h = act_keeps w act (record db { held = held }) seen (within, orderly, h)
 outcome_keeps w act db held a Skips within orderly h = kept_here (record db { held = held }) orderly
 outcome_keeps w act db held a Waits within orderly h = kept_here (record db { held = held }) orderly
 outcome_keeps w act db held a Deadlocks within orderly h = kept_here (record db { held = held }) orderly
+outcome_keeps w act db held a NotFree within orderly h = kept_here (record db { held = held }) orderly
 outcome_keeps w act db held a Serializes within orderly h = kept_here (record db { held = held }) orderly
 outcome_keeps w act db held a (Faults fault) within orderly h = kept_here (record db { held = held }) orderly
 
@@ -267,7 +289,7 @@ visit_keeps db w act seen within orderly its =
     let held = (settled db w a).held in
     kept_on db (record db { held = held }) _ (kept_held db held orderly)
     (outcome_keeps w act db held a (target_outcome db.content db.held (waits_in db w.around.sessions) a) within orderly
-    (outcome_fits db w act seen (waits_in db w.around.sessions) orderly its))
+    (outcome_fits db w act (strength_in db w act seen.row) seen (waits_in db w.around.sessions) orderly its))
 
 visit_db : (db : Database) (v : Visited) → (visit_of db v).db ≡ db
 visit_db db Passes = refl

@@ -2,12 +2,13 @@
 
 ghost use Rattle.std.specs.Prelude.{◌≡◌, option_map};
 ghost use Rattle.sql_trees.specs.Trees.{tree_of};
-ghost use Rattle.session_statements.specs.Inner.Acting.{filter_in, strength_in};
+ghost use Rattle.sql_trees.specs.Statements.{name_of};
+ghost use Rattle.session_statements.specs.Inner.Acting.{filter_in, policy_in, table_in};
 
-use row_locks::Strength;
+use iso_lexer::Name;
 use session_database::Stop;
 use session_queries::AssignedColumns;
-use sql_trees::{Delete, Expr, Select, Update};
+use sql_trees::{Delete, Expr, Lock, Policy, Select, Update};
 use sql_values::Row;
 
 /// What is done at each target.
@@ -16,8 +17,8 @@ pub(crate) enum Act<'s, 'a, 't> {
     /// It is given new values at these places.
     Update(&'a Update<'t>, &'s AssignedColumns),
     Delete(&'a Delete<'t>),
-    /// It is locked this strongly and shown.
-    Lock(&'a Select<'t>, Strength),
+    /// It is locked so, and shown.
+    Lock(&'a Select<'t>, Lock),
 }
 
 /// What came of one target.
@@ -37,13 +38,13 @@ pub(crate) struct Halt<'t> {
 }
 
 impl<'s, 'a, 't> Act<'s, 'a, 't> {
-    /// How strongly a target is wanted.
-    pub fn strength(&self) -> Strength
-        ensures { result ≡ strength_in self.now }
+    /// What is done where others hold a target in conflict.
+    pub fn policy(&self) -> Policy
+        ensures { result ≡ policy_in self.now }
     {
         match self {
-            Act::Lock(_, strength) => *strength,
-            _ => Strength::Exclusive,
+            Act::Lock(_, lock) => lock.policy,
+            _ => Policy::Wait,
         }
     }
 
@@ -55,6 +56,17 @@ impl<'s, 'a, 't> Act<'s, 'a, 't> {
             Act::Update(update, _) => update.filter.as_ref(),
             Act::Delete(delete) => delete.filter.as_ref(),
             Act::Lock(select, _) => select.filter.as_ref(),
+        }
+    }
+
+    /// The table that the statement names; a SELECT without one has no targets.
+    pub fn table(&self) -> Name<'t>
+        ensures { name_of result ≡ table_in self.now }
+    {
+        match self {
+            Act::Update(update, _) => update.table,
+            Act::Delete(delete) => delete.table,
+            Act::Lock(select, _) => select.table.unwrap_or(Name::Plain("")),
         }
     }
 }

@@ -5,7 +5,7 @@ ghost use Rattle.std.specs.Bool.{OnTrue};
 ghost use Rattle.sql_trees.specs.Statements.{item_of, select_of};
 ghost use Rattle.query_results.specs.Results.{IsEven};
 ghost use Rattle.query_results.specs.Queries.{titles_of};
-ghost use Rattle.session_machine.specs.Rows.{columns_in, strength_of, values_of};
+ghost use Rattle.session_machine.specs.Rows.{columns_in, values_of};
 ghost use Rattle.session_machine.specs.Inner.Statements.{lock_with, after_walk, lock_from, walked};
 ghost use Rattle.session_machine.specs.declared.reply.Outcome.TheVariants.{Rows};
 ghost use Rattle.session_statements.specs.Inner.Acting.{visit_at, visit_of};
@@ -19,7 +19,6 @@ use crate::targets::taken_targets;
 use crate::transactions::fail_value;
 use crate::walk::{halt, walk};
 use query_results::{ResultSet, Title};
-use row_locks::Strength;
 use row_versions::{Seen, Versions};
 use session_database::{Database, Stop, Work};
 use session_machine::{Outcome, Transaction};
@@ -27,16 +26,6 @@ use session_queries::{row_values, titles_of};
 use sql_trees::{Lock, Select};
 use sql_values::Row;
 use std::alloc::AllocError;
-
-/// FOR SHARE shares the row; FOR UPDATE holds it alone.
-pub(crate) fn strength_of(lock: Lock) -> Strength
-    ensures { result ≡ strength_of lock }
-{
-    match lock {
-        Lock::Share => Strength::Share,
-        Lock::Update => Strength::Exclusive,
-    }
-}
 
 /// Whether each row is as long as the titles.
 fn is_even(titles: &[Title<'_>], rows: &[Row]) -> bool
@@ -123,7 +112,7 @@ pub(crate) fn lock_from<'a, 't, V: Versions>(
 {
     match taken_targets(db, work, stmt) {
         Ok(targets) => {
-            let act = Act::Lock(stmt, strength_of(lock));
+            let act = Act::Lock(stmt, lock);
             lock_over(db, work, stmt, &act, &targets, place, rows)
         }
         Err(fault) => fail_value(db, &work.by, fault),

@@ -5,12 +5,12 @@ ghost use Rattle.sql_trees.specs.Statements.{column_of, name_of, set_of, update_
 ghost use Rattle.row_versions.specs.Log.{IsOpen};
 ghost use Rattle.query_results.specs.Updates.{columns_set, updated};
 ghost use Rattle.sql_values.specs.Values.{Answers};
-ghost use Rattle.session_machine.specs.Rows.{cols_in, columns_in, values_of};
+ghost use Rattle.session_machine.specs.Rows.{cols_in, columns_in, update_strength, values_of};
 ghost use Rattle.session_machine.specs.Inner.Statements.{update_with, assigned_to};
 ghost use Rattle.session_machine.specs.Inner.Pieces.{update_made};
 ghost use Rattle.session_statements.specs.Inner.Acting.{visit_of};
 ghost use Rattle.session_statements.specs.Inner.Going.{go_from};
-ghost use Rattle.session_statements.specs.Inner.Keeping.{IsAtWork};
+ghost use Rattle.session_statements.specs.Inner.Keeping.{IsAtWork, IsOrderly, RowIn};
 ghost use Rattle.session_statements.specs.Inner.Left.{left};
 
 use crate::act::{Act, Visited};
@@ -22,8 +22,8 @@ use crate::walk::go_over_passing;
 use iso_lexer::Name;
 use row_versions::{Seen, Versions};
 use session_database::{Database, Stop, Work};
-use session_queries::{AssignedColumns, columns_set, updated_values};
-use sql_trees::{Column, Expr, Update};
+use session_queries::{AssignedColumns, columns_set, leaves_all, updated_values};
+use sql_trees::{Column, Expr, Strength, Update};
 use sql_values::{Row, ValueFault};
 use std::alloc::{AllocError, Global};
 
@@ -37,6 +37,32 @@ fn assigned_to<'t>(
 {
     let found = columns_set(alloc, columns, sets)?;
     Ok(all_or_none(alloc, found))
+}
+
+/// How strongly the UPDATE wants the target's row at present: by the values of its newest version, all of whose keys it may leave as they are.
+pub(crate) fn update_strength<'a, 't, V: Versions>(
+    db: &Database<'a, 't, V>,
+    work: &Work<'_>,
+    stmt: &Update<'t>,
+    to: &AssignedColumns,
+    seen: &Seen,
+) -> Result<Strength, AllocError>
+    requires within { work.now.table < length db.now.catalog.tables }
+    requires orderly { IsOrderly db.now }
+    requires its { RowIn db.now.content work.now.table seen.now.row }
+    ensures { IfOk result (λ strength. strength ≡ update_strength db.now work.now to.now (update_of stmt.now) seen.now.row) }
+{
+    let Some(newest) = db.newest_values(work, seen.row) else {
+        return Ok(Strength::Update);
+    };
+    let columns = db.columns_in(work);
+    let keys = db.keys_in(work);
+    let stays = leaves_all(db.alloc(), columns, to, &stmt.sets, keys, newest)?;
+    if stays {
+        Ok(Strength::NoKeyUpdate)
+    } else {
+        Ok(Strength::Update)
+    }
 }
 
 /// What the UPDATE makes of the version.

@@ -1,17 +1,20 @@
 -- What a statement does at its targets, whichever it is.
-use Rattle.std.specs.Prelude.{List, [], ◌∷◌, Option, Some, None}
+use Rattle.std.specs.Prelude.{ℕ, List, [], ◌∷◌, Option, Some, None, unwrap_or}
+use Rattle.sql_trees.specs.declared.stmt.Strength.{Strength}
+use Rattle.sql_trees.specs.declared.stmt.Strength.TheVariants as strengths
+use Rattle.sql_trees.specs.declared.stmt.Policy.{Policy}
+use Rattle.sql_trees.specs.declared.stmt.Policy.TheVariants.{Wait}
 use Rattle.sql_trees.specs.Trees.{Tree}
 use Rattle.sql_trees.specs.Statements.{update_of, delete_of, select_of}
 use Rattle.sql_values.specs.declared.value.Value.{Value}
+use Rattle.row_versions.specs.declared.names.RowId.{RowId}
 use Rattle.row_versions.specs.declared.write.Seen.{Seen}
 use Rattle.row_versions.specs.Log.{Content}
-use Rattle.row_locks.specs.declared.held.Strength.{Strength}
-use Rattle.row_locks.specs.declared.held.Strength.TheVariants.{Exclusive}
 use Rattle.update_recheck.specs.Asked.{Asked}
 use Rattle.session_machine.specs.declared.reply.Outcome.{Outcome}
 use Rattle.session_machine.specs.Tables.{Database}
 use Rattle.session_machine.specs.Statements.{Effect, answers}
-use Rattle.session_machine.specs.Rows.{Work}
+use Rattle.session_machine.specs.Rows.{Work, update_strength}
 use Rattle.session_machine.specs.Inner.Statements.{ask, at_target, update_with, delete_with, lock_with, comes_to, Visit, stops, goes_on}
 use Rattle.session_statements.specs.declared.act.Act.{Act}
 use Rattle.session_statements.specs.declared.act.Act.TheVariants.{Update, Delete, Lock}
@@ -20,28 +23,45 @@ use Rattle.session_statements.specs.declared.act.Visited.{Visited}
 use Rattle.session_statements.specs.declared.act.Visited.TheVariants.{Passes, Shows, Stops}
 use Rattle.session_statements.specs.declared.act.Halt.{Halt}
 
-abbrev pub strength_in : Act → Strength
-strength_in (Update u to) = Exclusive
-strength_in (Delete d) = Exclusive
-strength_in (Lock s strength) = strength
+-- how strongly the row is wanted at present
+abbrev pub strength_in : Database → Work → Act → RowId → Strength
+strength_in db w (Update u to) row = update_strength db w to.now (update_of u.now) row
+strength_in db w (Delete d) row = strengths.Update
+strength_in db w (Lock s l) row = l.strength
+
+-- what is done where others hold it in conflict
+abbrev pub policy_in : Act → Policy
+policy_in (Update u to) = Wait
+policy_in (Delete d) = Wait
+policy_in (Lock s l) = l.policy
 
 abbrev pub filter_in : Act → Option Tree
 filter_in (Update u to) = (update_of u.now).filter
 filter_in (Delete d) = (delete_of d.now).filter
-filter_in (Lock s strength) = (select_of s.now).filter
+filter_in (Lock s l) = (select_of s.now).filter
+
+-- the table that the statement names
+abbrev pub table_in : Act → List ℕ
+table_in (Update u to) = (update_of u.now).table
+table_in (Delete d) = (delete_of d.now).table
+table_in (Lock s l) = unwrap_or (select_of s.now).table []
 
 -- with the version that a target takes
 abbrev pub act_with : Work → Act → Database → Seen → Visit
 act_with w (Update u to) = update_with w (update_of u.now) to.now
 act_with w (Delete d) = delete_with w
-act_with w (Lock s strength) = lock_with w (select_of s.now)
+act_with w (Lock s l) = lock_with w (select_of s.now)
+
+-- one target, as it is asked for this strongly
+abbrev pub asked_at : Database → Work → Act → Strength → Seen → Asked
+asked_at db w act strength seen = ask db w strength (policy_in act) (filter_in act) seen
 
 -- one target, as the statement asks for it
 abbrev pub asks : Database → Work → Act → Seen → Asked
-asks db w act seen = ask db w (strength_in act) (filter_in act) seen
+asks db w act seen = asked_at db w act (strength_in db w act seen.row) seen
 
 abbrev pub visit_at : Work → Act → Database → Seen → Visit
-visit_at w act db seen = at_target (act_with w act) db w (asks db w act seen)
+visit_at w act db seen = at_target (table_in act) (act_with w act) db w (asks db w act seen)
 
 abbrev pub visit_of : Database → Visited → Visit
 visit_of db Passes = goes_on db []

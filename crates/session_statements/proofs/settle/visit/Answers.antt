@@ -1,5 +1,9 @@
+use Rattle.std.proofs.Common.{◌≡◌, subst}
+use Rattle.std.specs.Prelude.{IfOk}
+use Rattle.session_machine.specs.Inner.Statements.{Visit}
+use Rattle.session_statements.specs.Inner.Acting.{visit_of}
 use Rattle.session_statements.proofs.Keeping.{newest_fits}
-use Rattle.session_statements.proofs.Visiting.{can_take}
+use Rattle.session_statements.proofs.Visiting.{can_take, visited}
 use Rattle.session_statements.proofs.settle.visit.Goals as goal
 
 pub settle_target-requires-clause-fits : goal.settle_target-requires-clause-fits
@@ -7,5 +11,11 @@ settle_target-requires-clause-fits g c = newest_fits c.args.db.now c.args.work.n
 
 pub at_outcome-requires-clause-takes : goal.at_outcome-requires-clause-takes
 at_outcome-requires-clause-takes g c =
-    can_take c.args.db.now _ c.args.work.now c.args.act.now c.args.seen.now _ c.requires.orderly c.requires.its
+    can_take c.args.db.now _ c.args.work.now c.args.act.now c.in_ok-strength.strength c.args.seen.now _ c.requires.orderly c.requires.its
     c.in_ok-settled.ensures.locks c.in_ok-settled.ensures.outcome
+
+pub returns : goal.returns
+returns g c =
+    subst (λ (x : Visit). IfOk c.at_outcome.result (λ v. x ≡ visit_of c.at_outcome.new.db v))
+    (visited c.args.db.now _ c.args.work.now c.args.act.now c.in_ok-strength.strength c.args.seen.now _ c.in_ok-strength.ensures
+    c.in_ok-settled.ensures.locks c.in_ok-settled.ensures.outcome) c.at_outcome.ensures
