@@ -1,4 +1,4 @@
-//! Every cell of level, row, request, holder and WHERE, worked from the definitions. Run also with
+//! Every cell of level, row, request, holder, policy and WHERE, worked from the definitions. Run also with
 //! `rt try --test --fail-alloc N` for each N: a call that was refused leaves the locks as they were, and is made again.
 ghost use Rattle.std.specs.Prelude.{IsTrue};
 ghost use Rattle.update_recheck.specs.Asked.{Fits, asked};
@@ -6,12 +6,13 @@ ghost use Rattle.update_recheck.specs.Asked.{Fits, asked};
 use crate::asking::holds;
 use crate::stores::Change::{Gone, Newer, Own, RolledBack, Unchanged};
 use crate::stores::{ASKER, Change, ROW, changed};
+use crate::strengths::{CONFLICTS, STRENGTHS};
 use iso_lexer::Name;
-use row_locks::Strength::{Exclusive, Share};
+use row_locks::Strength::{Share, Update};
 use row_locks::{LockTable, Strength, Waits};
 use row_versions::{ListStore, Seen, TxId, Versions, View};
 use smallvec::SmallVec;
-use sql_trees::{Column, Expr, Kind, Level, Operator};
+use sql_trees::{Column, Expr, Kind, Level, Operator, Policy};
 use sql_values::Columns;
 use std::alloc::{AllocError, Global};
 use std::process::Abort;
@@ -104,7 +105,7 @@ fn waits_of(alloc: Global, closing: bool) -> Result<Waits, Fail> {
 
 /// Whether the asker holds the row.
 fn is_locked(locks: &LockTable) -> Result<bool, Fail> {
-    let holders = locks.against(ROW, PROBE, Strength::Exclusive)?;
+    let holders = locks.against(ROW, PROBE, Strength::Update)?;
     Ok(holders.iter().any(|tx| tx.0 == ASKER.0))
 }
 
@@ -134,17 +135,19 @@ fn letter(settled: &Settled<'_>, place: u64, is_locked: bool) -> u8 {
         (Settled::Fault(_), true) => b'F',
         (Settled::Wait(_), false) => b'W',
         (Settled::Deadlock, false) => b'D',
+        (Settled::NotFree, false) => b'X',
         (Settled::Serialize, false) => b'Z',
         _ => b'?',
     }
 }
 
-/// A target: at which level it is asked for, what became of it, how strongly it is wanted.
+/// A target: at which level it is asked for, what became of it, how strongly it is wanted, what is done where others hold it.
 #[derive(Clone, Copy)]
 pub struct Target {
     pub level: Level,
     pub change: Change,
     pub strength: Strength,
+    pub policy: Policy,
 }
 
 /// What comes of the target in this store.
@@ -170,6 +173,7 @@ fn came_in(
         view,
         seen: Seen { row: ROW, place },
         strength: target.strength,
+        policy: target.policy,
         filter: Some(condition),
         cols: &cols,
     };
@@ -212,7 +216,7 @@ fn four_cells(
     Ok(())
 }
 
-/// What became of the row and how strongly it is wanted, and what comes of it where it is free, held in share, and held exclusively.
+/// What became of the row and how strongly it is wanted, and what comes of it where it is free, held at Share, and held at Update.
 type Cells = (
     Change,
     Strength,
@@ -222,11 +226,11 @@ type Cells = (
 );
 
 const AT_READ_COMMITTED: [Cells; 10] = [
-    (Unchanged, Exclusive, b"TTTT", b"WWWW", b"WWWW"),
-    (RolledBack, Exclusive, b"TTTT", b"WWWW", b"WWWW"),
-    (Newer, Exclusive, b"NKKF", b"WWWW", b"WWWW"),
-    (Gone, Exclusive, b"SSSS", b"WWWW", b"WWWW"),
-    (Own, Exclusive, b"TTTT", b"WWWW", b"WWWW"),
+    (Unchanged, Update, b"TTTT", b"WWWW", b"WWWW"),
+    (RolledBack, Update, b"TTTT", b"WWWW", b"WWWW"),
+    (Newer, Update, b"NKKF", b"WWWW", b"WWWW"),
+    (Gone, Update, b"SSSS", b"WWWW", b"WWWW"),
+    (Own, Update, b"TTTT", b"WWWW", b"WWWW"),
     (Unchanged, Share, b"TTTT", b"TTTT", b"WWWW"),
     (RolledBack, Share, b"TTTT", b"TTTT", b"WWWW"),
     (Newer, Share, b"NKKF", b"NKKF", b"WWWW"),
@@ -235,11 +239,11 @@ const AT_READ_COMMITTED: [Cells; 10] = [
 ];
 
 const AT_REPEATABLE_READ: [Cells; 10] = [
-    (Unchanged, Exclusive, b"TTTT", b"WWWW", b"WWWW"),
-    (RolledBack, Exclusive, b"TTTT", b"WWWW", b"WWWW"),
-    (Newer, Exclusive, b"ZZZZ", b"ZZZZ", b"ZZZZ"),
-    (Gone, Exclusive, b"ZZZZ", b"ZZZZ", b"ZZZZ"),
-    (Own, Exclusive, b"TTTT", b"WWWW", b"WWWW"),
+    (Unchanged, Update, b"TTTT", b"WWWW", b"WWWW"),
+    (RolledBack, Update, b"TTTT", b"WWWW", b"WWWW"),
+    (Newer, Update, b"ZZZZ", b"ZZZZ", b"ZZZZ"),
+    (Gone, Update, b"ZZZZ", b"ZZZZ", b"ZZZZ"),
+    (Own, Update, b"TTTT", b"WWWW", b"WWWW"),
     (Unchanged, Share, b"TTTT", b"TTTT", b"WWWW"),
     (RolledBack, Share, b"TTTT", b"TTTT", b"WWWW"),
     (Newer, Share, b"ZZZZ", b"ZZZZ", b"ZZZZ"),
@@ -248,20 +252,21 @@ const AT_REPEATABLE_READ: [Cells; 10] = [
 ];
 
 fn are_settled(rt: &impl Abort, alloc: Global, level: Level, all: &[Cells]) -> Result<(), Fail> {
-    for (change, strength, free, shared, exclusive) in all {
+    for (change, strength, free, shared, alone) in all {
         let target = Target {
             level,
             change: *change,
             strength: *strength,
+            policy: Policy::Wait,
         };
         four_cells(rt, alloc, target, None, *free)?;
         four_cells(rt, alloc, target, Some(Share), *shared)?;
-        four_cells(rt, alloc, target, Some(Exclusive), *exclusive)?;
+        four_cells(rt, alloc, target, Some(Update), *alone)?;
     }
     Ok(())
 }
 
-/// For each level, row and request, with a row that is free, held in share and held exclusively: what comes of the
+/// For each level, row and request, with a row that is free, held at Share and held at Update: what comes of the
 /// target where WHERE, at the newest version, is true, false, NULL and no condition. T: the row is taken as it was
 /// found. N: its newest version is taken. K: it is passed over and stays locked. F: the fault is told and it stays
 /// locked. Nothing else locks it. S: it is passed over. W: it waits. Z: it can't serialize.
@@ -269,6 +274,69 @@ fn are_settled(rt: &impl Abort, alloc: Global, level: Level, all: &[Cells]) -> R
 fn each_cell_is_settled_as_defined(rt: HostRuntime) -> Result<(), Fail> {
     are_settled(&rt, rt.alloc(), Level::ReadCommitted, &AT_READ_COMMITTED)?;
     are_settled(&rt, rt.alloc(), Level::RepeatableRead, &AT_REPEATABLE_READ)
+}
+
+const POLICIES: [Policy; 3] = [Policy::Wait, Policy::NoWait, Policy::SkipLocked];
+
+/// At which level a target is asked for, and what became of it; what comes of it where it is held without a conflict; where it is held in conflict, by policy; and
+/// where the holder waits for the asker too.
+type Held = (Level, Change, u8, &'static [u8; 3], &'static [u8; 3]);
+
+const HELD: [Held; 6] = [
+    (Level::ReadCommitted, Unchanged, b'T', b"WXS", b"DXS"),
+    (Level::ReadCommitted, Newer, b'N', b"WXS", b"DXS"),
+    (Level::ReadCommitted, Gone, b'S', b"WXS", b"DXS"),
+    (Level::RepeatableRead, Unchanged, b'T', b"WXS", b"DXS"),
+    (Level::RepeatableRead, Newer, b'Z', b"ZZZ", b"ZZZ"),
+    (Level::RepeatableRead, Gone, b'Z', b"ZZZ", b"ZZZ"),
+];
+
+/// The target of this strength, held so, with each policy.
+fn each_policy(
+    rt: &impl Abort,
+    alloc: Global,
+    wanted: &Held,
+    strength: Strength,
+    held: Strength,
+    conflicts: bool,
+) -> Result<(), Fail> {
+    let (level, change, free, blocked, in_a_cycle) = wanted;
+    for which in 0..3 {
+        let target = Target {
+            level: *level,
+            change: *change,
+            strength,
+            policy: POLICIES[which],
+        };
+        let want = if conflicts { blocked[which] } else { *free };
+        let found = came(rt, alloc, target, Some(held), false, 0)?;
+        holds(rt, found == want, "no cycle");
+        let want = if conflicts { in_a_cycle[which] } else { *free };
+        let found = came(rt, alloc, target, Some(held), true, 0)?;
+        holds(rt, found == want, "a cycle");
+    }
+    Ok(())
+}
+
+/// Each pair of strengths, at both levels, with each policy, by the manual's table of conflicts. X: the row isn't free. The
+/// other letters are those above. A row that is passed over as it is held isn't locked.
+#[test]
+fn each_pair_of_strengths_is_settled_by_policy(rt: HostRuntime) -> Result<(), Fail> {
+    for wanted in &HELD {
+        for (strength, row) in CONFLICTS {
+            for which in 0..4 {
+                each_policy(
+                    &rt,
+                    rt.alloc(),
+                    wanted,
+                    strength,
+                    STRENGTHS[which],
+                    row[which] == b'X',
+                )?;
+            }
+        }
+    }
+    Ok(())
 }
 
 /// For how many the asker waits, where the row is as it was found.
@@ -287,7 +355,8 @@ pub fn waited_for<V: Versions>(
             command: 0,
         },
         seen: Seen { row: ROW, place: 0 },
-        strength: Exclusive,
+        strength: Update,
+        policy: Policy::Wait,
         filter: None,
         cols: &cols,
     };

@@ -13,3 +13,5 @@ mod memory;
 mod sizes;
 #[cfg(test)]
 mod stores;
+#[cfg(test)]
+mod strengths;

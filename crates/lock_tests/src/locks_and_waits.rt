@@ -2,7 +2,8 @@
 //! Run also with `rt try --test --fail-alloc N` for each N: a call that was refused has changed nothing, and is made again.
 
 use crate::asking::holds;
-use row_locks::Strength::{Exclusive, Share};
+use crate::strengths::{CONFLICTS, STRENGTHS};
+use row_locks::Strength::{Share, Update};
 use row_locks::{LockTable, Strength, Waits};
 use row_versions::{RowId, TxId};
 use smallvec::SmallVec;
@@ -57,7 +58,7 @@ fn take_first(
     strength: Strength,
 ) -> Result<(), Fail> {
     if locks.take(ROW, TxId(tx), strength).is_err() {
-        let nobody = blocked_by(locks, ROW, 9, Exclusive, &NOBODY);
+        let nobody = blocked_by(locks, ROW, 9, Update, &NOBODY);
         holds(rt, nobody, "a lock that was refused");
         locks.take(ROW, TxId(tx), strength)?;
     }
@@ -73,20 +74,29 @@ fn conflict_is(rt: &impl Abort, locks: &LockTable, asked: Strength, conflicts: b
     holds(rt, other, "another row");
 }
 
+/// A row is held so: who else asks for it so is blocked by the holder or not, until the holder lets go.
+fn pair_is(
+    rt: &impl Abort,
+    alloc: Global,
+    held: Strength,
+    asked: Strength,
+    conflicts: bool,
+) -> Result<(), Fail> {
+    let mut locks = LockTable::new(alloc);
+    take_first(rt, &mut locks, 1, held)?;
+    conflict_is(rt, &locks, asked, conflicts);
+    locks.release(TxId(1));
+    let nobody = blocked_by(&locks, ROW, 2, asked, &NOBODY);
+    holds(rt, nobody, "a lock that is released");
+    Ok(())
+}
+
 #[test]
-fn shared_locks_agree_and_others_conflict(rt: HostRuntime) -> Result<(), Fail> {
-    for (held, asked, conflicts) in [
-        (Share, Share, false),
-        (Share, Exclusive, true),
-        (Exclusive, Share, true),
-        (Exclusive, Exclusive, true),
-    ] {
-        let mut locks = LockTable::new(rt.alloc());
-        take_first(&rt, &mut locks, 1, held)?;
-        conflict_is(&rt, &locks, asked, conflicts);
-        locks.release(TxId(1));
-        let nobody = blocked_by(&locks, ROW, 2, asked, &NOBODY);
-        holds(&rt, nobody, "a lock that is released");
+fn strengths_conflict_as_in_the_manual(rt: HostRuntime) -> Result<(), Fail> {
+    for (asked, row) in CONFLICTS {
+        for which in 0..4 {
+            pair_is(&rt, rt.alloc(), STRENGTHS[which], asked, row[which] == b'X')?;
+        }
     }
     Ok(())
 }
@@ -105,12 +115,12 @@ fn take_all(locks: &mut LockTable) -> Result<(), Fail> {
 fn each_blocker_is_found_once(rt: HostRuntime) -> Result<(), Fail> {
     let mut locks = LockTable::new(rt.alloc());
     take_all(&mut locks)?;
-    let all = blocked_by(&locks, ROW, 9, Exclusive, &[5, 1, 2, 3, 4]);
+    let all = blocked_by(&locks, ROW, 9, Update, &[5, 1, 2, 3, 4]);
     holds(&rt, all, "all");
-    let others = blocked_by(&locks, ROW, 2, Exclusive, &[5, 1, 3, 4]);
+    let others = blocked_by(&locks, ROW, 2, Update, &[5, 1, 3, 4]);
     holds(&rt, others, "the others");
     locks.release(TxId(5));
-    let left = blocked_by(&locks, ROW, 9, Exclusive, &[1, 2, 3, 4]);
+    let left = blocked_by(&locks, ROW, 9, Update, &[1, 2, 3, 4]);
     holds(&rt, left, "those that are left");
     Ok(())
 }

@@ -4,7 +4,7 @@ use crate::asking::holds;
 use crate::cells::{Target, came};
 use crate::stores::Change;
 use row_locks::Strength;
-use sql_trees::Level;
+use sql_trees::{Level, Policy};
 use std::test::Fail;
 
 /// The table of locks grows; WHERE makes a text; the search for a cycle makes its lists.
@@ -13,13 +13,14 @@ fn refused_memory_leaves_the_locks(rt: HostRuntime) -> Result<(), Fail> {
     let cases = [
         (Change::Unchanged, None, 0, b'T'),
         (Change::Newer, None, 4, b'N'),
-        (Change::Unchanged, Some(Strength::Exclusive), 0, b'D'),
+        (Change::Unchanged, Some(Strength::Update), 0, b'D'),
     ];
     for (change, held, which, want) in cases {
         let target = Target {
             level: Level::ReadCommitted,
             change,
-            strength: Strength::Exclusive,
+            strength: Strength::Update,
+            policy: Policy::Wait,
         };
         let found = came(&rt, rt.alloc(), target, held, true, which)?;
         holds(&rt, found == want, "a cell");

@@ -3,7 +3,7 @@
 use crate::asking::holds;
 use crate::cells::waited_for;
 use crate::stores::{Change, ROW, changed};
-use row_locks::Strength::{Exclusive, Share};
+use row_locks::Strength::{Share, Update};
 use row_locks::{LockTable, Waits};
 use row_versions::{ListStore, TxId};
 use smallvec::SmallVec;
@@ -66,7 +66,7 @@ fn shared(alloc: Global, size: u64) -> Result<LockTable, AllocError> {
 
 fn all_are_against(alloc: Global, size: u64) -> Result<bool, AllocError> {
     let locks = shared(alloc, size)?;
-    let found = locks.against(ROW, TxId(0), Exclusive)?;
+    let found = locks.against(ROW, TxId(0), Update)?;
     Ok(found.len() as u64 == size)
 }
 

@@ -10,6 +10,8 @@ use Rattle.sql_trees.specs.declared.word.Word.TheVariants as words
 use Rattle.sql_trees.specs.declared.expr.AggKind.{AggKind}
 use Rattle.sql_trees.specs.declared.expr.AggKind.TheVariants as aggs
 use Rattle.sql_trees.specs.declared.stmt.Lock.{Lock}
+use Rattle.sql_trees.specs.declared.stmt.Strength.{Strength}
+use Rattle.sql_trees.specs.declared.stmt.Policy.{Policy}
 use Rattle.sql_trees.specs.Words.{is_reserved}
 use Rattle.sql_trees.specs.Statements.{ItemTree, OrderTree, SelectTree, Selects, All, Value, Aggregate}
 use Rattle.sql_trees.specs.Tokens.{Token, Tokens, named}
@@ -22,9 +24,9 @@ use Rattle.sql_expressions.specs.Grammar.{Ends, may_go_on}
 use Rattle.sql_expressions.proofs.Complete.{expr_complete}
 use Rattle.sql_expressions.proofs.Same.{is_fault, expr_same}
 use Rattle.sql_blocks.specs.Parts.{is_allowed}
-use Rattle.sql_parser.specs.Inner.Queries.{call_at, counts_rows, maybe_name, direction_at, agg_at, item_at, from_at, nulls_at, order_add, order_at, lock_at, select_at}
-use Rattle.sql_parser.specs.Queries.{alias_at}
-use Rattle.sql_parser.specs.Grammar.{Is, Commas, AliasIs, no_alias, as_alias, bare_alias, AggIs, all_rows, of_values, AddsItem, a_star, a_value, an_aggregate, FromIs, no_table, from_table, DirectionIs, as_ever, ascending, descending, NullsAre, unsaid, nulls_first, nulls_last, AddsKey, adds_key, OrderIs, unordered, ordered, LockIs, no_lock, for_update, for_share, WhereIs, unfiltered, filtered, Shallow}
+use Rattle.sql_parser.specs.Inner.Queries.{call_at, counts_rows, maybe_name, direction_at, agg_at, item_at, from_at, nulls_at, order_add, order_at, strength_at, lock_at, select_at}
+use Rattle.sql_parser.specs.Queries.{alias_at, policy_at}
+use Rattle.sql_parser.specs.Grammar.{Is, Commas, AliasIs, no_alias, as_alias, bare_alias, AggIs, all_rows, of_values, AddsItem, a_star, a_value, an_aggregate, FromIs, no_table, from_table, DirectionIs, as_ever, ascending, descending, NullsAre, unsaid, nulls_first, nulls_last, AddsKey, adds_key, OrderIs, unordered, ordered, StrengthIs, for_update, for_no_key_update, for_share, for_key_share, PolicyIs, wait, no_wait, skip_locked, LockIs, no_lock, locks, WhereIs, unfiltered, filtered, Shallow}
 use Rattle.sql_parser.proofs.StmtLocals.{word_is}
 use Rattle.sql_parser.proofs.Completes.{other_word, not_key, ends_part, Parted, part_ends, no_name_next, no_part_word, comma_is_parted, close_ends, tree_reads, list_reads}
 use Rattle.sql_parser.proofs.CompleteStmts.{where_reads}
@@ -243,8 +245,7 @@ module _ (last : ℕ) where
 
   lock_clause : (ls : Tokens) (l : Option Lock) → LockIs ls l → Clause is_lock ls
   lock_clause _ _ no_lock = tt
-  lock_clause _ _ (for_update f u hf hu) = let k = word_is words.For f.tok hf in rw k.1 refl
-  lock_clause _ _ (for_share f s hf hs) = let k = word_is words.For f.tok hf in rw k.1 refl
+  lock_clause _ _ (locks f ss ps s p hf hs hp) = let k = word_is words.For f.tok hf in rw k.1 refl
 
   order_clause : (os rest : Tokens) (ks : List OrderTree) → OrderIs Shallow os ks → Clause is_lock rest → Clause is_order (os ++ rest)
   order_clause _ rest _ unordered c = up is_lock is_order lock_order rest c
@@ -267,11 +268,23 @@ module _ (last : ℕ) where
   from_reads _ rest _ no_table c = rw (none_after is_where words.From (where_word words.From (λ e. cc) (λ e. cc) (λ e. cc)) rest c) refl
   from_reads _ rest _ (from_table f t n hf hn) c = rw (hf, hn) refl
 
+  strength_reads : (ss rest : Tokens) (s : Strength) → StrengthIs ss s → strength_at last (ss ++ rest) ≡ Ok (s, rest)
+  unfolding strength_at
+  strength_reads _ rest _ (for_update u hu) = rw (not_key words.Update words.No u hu (λ e. cc), not_key words.Update words.Key u hu (λ e. cc), hu) refl
+  strength_reads _ rest _ (for_no_key_update n k u hn hk hu) = rw (hn, hk, hu) refl
+  strength_reads _ rest _ (for_share s hs) = rw (not_key words.Share words.No s hs (λ e. cc), not_key words.Share words.Key s hs (λ e. cc), not_key words.Share words.Update s hs (λ e. cc), hs) refl
+  strength_reads _ rest _ (for_key_share k s hk hs) = rw (not_key words.Key words.No k hk (λ e. cc), hk, hs) refl
+
+  policy_reads : (ps : Tokens) (p : Policy) → PolicyIs ps p → policy_at last ps ≡ Ok (p, [])
+  unfolding policy_at
+  policy_reads _ _ wait = refl
+  policy_reads _ _ (no_wait n hn) = rw hn refl
+  policy_reads _ _ (skip_locked s l hs hl) = rw (not_key words.Skip words.NoWait s hs (λ e. cc), hs, hl) refl
+
   lock_reads : (ls : Tokens) (l : Option Lock) → LockIs ls l → lock_at last ls ≡ Ok (l, [])
   unfolding lock_at
   lock_reads _ _ no_lock = refl
-  lock_reads _ _ (for_update f u hf hu) = rw (hf, hu) refl
-  lock_reads _ _ (for_share f s hf hs) = rw (hf, not_key words.Share words.Update s hs (λ e. cc), hs) refl
+  lock_reads _ _ (locks f ss ps s p hf hs hp) = rw (hf, strength_reads ss ps s hs, policy_reads ps p hp) refl
 
   -- ---- ORDER BY
 

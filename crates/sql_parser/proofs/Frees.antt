@@ -16,6 +16,8 @@ use Rattle.sql_trees.specs.declared.expr.Operator.{Operator}
 use Rattle.sql_trees.specs.declared.expr.Truth.{Truth}
 use Rattle.sql_trees.specs.declared.stmt.Level as levels
 use Rattle.sql_trees.specs.declared.stmt.Lock.{Lock}
+use Rattle.sql_trees.specs.declared.stmt.Strength.{Strength}
+use Rattle.sql_trees.specs.declared.stmt.Policy.{Policy}
 use Rattle.sql_trees.specs.Statements.{StmtTree, SetTree, ItemTree, OrderTree}
 use Rattle.sql_trees.specs.Tokens.{Token, Tokens, named}
 use Rattle.sql_trees.specs.Tokens as tok
@@ -24,7 +26,7 @@ use Rattle.sql_expressions.specs.Readers.{is_word, is_sign}
 use Rattle.sql_expressions.specs.Reading.{comparison_op, truth_of, agg_kind}
 use Rattle.sql_expressions.specs.Grammar.{IsWord, Level, OR, AND, CAT, ADD, MUL, operator_at, SpellsIn, ItemsIn, only, chain, negation, is, comparison, contained, between, minus, plus, parens, literal, one, next, IsLeaf, number, text, column, yes, no, null, IsIn, IsBetween, IsIs}
 use Rattle.sql_parser.specs.Transactions.{is_work}
-use Rattle.sql_parser.specs.Grammar.{is_scope, is_to, is_setting, Constraints, kind_of, Rows, Is, Key, Perhaps, nothing, one_is, Commas, last_item, next_item, AddsName, adds_name, IsolationIs, uncommitted, committed, repeatable, MaybeLevel, no_level, a_level, AddsColumn, adds_column, Says, no_more, not_null, primary_key, unique_key, AddsPart, a_column, a_primary, a_unique, AddsValue, adds_value, RowIs, is_row, AddsRow, adds_row, ColumnsAre, unlisted, listed_columns, AddsSet, adds_set, WhereIs, unfiltered, filtered, AliasIs, no_alias, as_alias, bare_alias, AggIs, all_rows, of_values, AddsItem, a_star, a_value, an_aggregate, FromIs, no_table, from_table, DirectionIs, as_ever, ascending, descending, NullsAre, unsaid, nulls_first, nulls_last, AddsKey, adds_key, OrderIs, unordered, ordered, LockIs, no_lock, for_update, for_share, Spells, begin, start, commit, end, rollback, abort, set_transaction, set_timeout, create, drop, drop_if, insert, update, delete, select, Shallow}
+use Rattle.sql_parser.specs.Grammar.{is_scope, is_to, is_setting, Constraints, kind_of, Rows, Is, Key, Perhaps, nothing, one_is, Commas, last_item, next_item, AddsName, adds_name, IsolationIs, uncommitted, committed, repeatable, MaybeLevel, no_level, a_level, AddsColumn, adds_column, Says, no_more, not_null, primary_key, unique_key, AddsPart, a_column, a_primary, a_unique, AddsValue, adds_value, RowIs, is_row, AddsRow, adds_row, ColumnsAre, unlisted, listed_columns, AddsSet, adds_set, WhereIs, unfiltered, filtered, AliasIs, no_alias, as_alias, bare_alias, AggIs, all_rows, of_values, AddsItem, a_star, a_value, an_aggregate, FromIs, no_table, from_table, DirectionIs, as_ever, ascending, descending, NullsAre, unsaid, nulls_first, nulls_last, AddsKey, adds_key, OrderIs, unordered, ordered, StrengthIs, for_update, for_no_key_update, for_share, for_key_share, PolicyIs, wait, no_wait, skip_locked, LockIs, no_lock, locks, Spells, begin, start, commit, end, rollback, abort, set_transaction, set_timeout, create, drop, drop_if, insert, update, delete, select, Shallow}
 use Rattle.sql_parser.specs.Tables.{Placed, TableRead}
 use Rattle.sql_parser.specs.Grammar as grammar
 
@@ -269,10 +271,20 @@ order_free : (ts : Tokens) (ks : List OrderTree) → OrderIs Shallow ts ks → F
 order_free _ _ unordered = refl
 order_free _ _ (ordered o b ts ks ho hb q) = keys_free words.Order o (b ∷ ts) ho (keys_free words.By b ts hb (commas_free (AddsKey Shallow) adds_key_free q))
 
+strength_free : (ts : Tokens) (s : Strength) → StrengthIs ts s → Free ts
+strength_free _ _ (for_update u hu) = keys_free words.Update u [] hu refl
+strength_free _ _ (for_no_key_update n k u hn hk hu) = keys_free words.No n (k ∷ u ∷ []) hn (keys_free words.Key k (u ∷ []) hk (keys_free words.Update u [] hu refl))
+strength_free _ _ (for_share s hs) = keys_free words.Share s [] hs refl
+strength_free _ _ (for_key_share k s hk hs) = keys_free words.Key k (s ∷ []) hk (keys_free words.Share s [] hs refl)
+
+policy_free : (ts : Tokens) (p : Policy) → PolicyIs ts p → Free ts
+policy_free _ _ wait = refl
+policy_free _ _ (no_wait n hn) = keys_free words.NoWait n [] hn refl
+policy_free _ _ (skip_locked s l hs hl) = keys_free words.Skip s (l ∷ []) hs (keys_free words.Locked l [] hl refl)
+
 lock_free : (ts : Tokens) (l : Option Lock) → LockIs ts l → Free ts
 lock_free _ _ no_lock = refl
-lock_free _ _ (for_update f u hf hu) = keys_free words.For f (u ∷ []) hf (keys_free words.Update u [] hu refl)
-lock_free _ _ (for_share f s hf hs) = keys_free words.For f (s ∷ []) hf (keys_free words.Share s [] hs refl)
+lock_free _ _ (locks f ss ps s p hf hs hp) = keys_free words.For f (ss ++ ps) hf (both ss ps (strength_free ss s hs) (policy_free ps p hp))
 
 -- ---- statements
 

@@ -11,7 +11,8 @@ use Rattle.sql_trees.specs.declared.word.Word.TheVariants as words
 use Rattle.sql_trees.specs.declared.expr.AggKind.{AggKind}
 use Rattle.sql_trees.specs.declared.expr.AggKind.TheVariants as aggs
 use Rattle.sql_trees.specs.declared.stmt.Lock.{Lock}
-use Rattle.sql_trees.specs.declared.stmt.Lock.TheVariants as locks
+use Rattle.sql_trees.specs.declared.stmt.Strength.TheVariants as strengths
+use Rattle.sql_trees.specs.declared.stmt.Policy.TheVariants as policies
 use Rattle.sql_trees.specs.Words.{is_reserved}
 use Rattle.sql_trees.specs.Statements.{StmtTree, ItemTree, OrderTree, SelectTree, Selects, All, Value, Aggregate}
 use Rattle.sql_trees.specs.Tokens.{Token, Tokens, named}
@@ -26,9 +27,9 @@ use Rattle.sql_expressions.specs.Reading.{agg_kind}
 use Rattle.sql_parser.specs.Readers.{tree_at}
 use Rattle.sql_parser.specs.Tables.{TableRead, keys_fault, created}
 use Rattle.sql_parser.specs.Changes.{filter_at}
-use Rattle.sql_parser.specs.Inner.Queries.{call_at, maybe_name, direction_at, agg_at, item_of, item_at, from_at, nulls_at, order_add, order_at, lock_at, query_of, select_at}
-use Rattle.sql_parser.specs.Queries.{alias_at}
-use Rattle.sql_parser.specs.Grammar.{Is, Key, Names, Commas, AliasIs, no_alias, as_alias, bare_alias, AggIs, all_rows, of_values, AddsItem, a_star, a_value, an_aggregate, FromIs, no_table, from_table, DirectionIs, as_ever, ascending, descending, NullsAre, unsaid, nulls_first, nulls_last, AddsKey, adds_key, OrderIs, unordered, ordered, LockIs, no_lock, for_update, for_share, WhereIs, unfiltered, Spells, select}
+use Rattle.sql_parser.specs.Inner.Queries.{call_at, maybe_name, direction_at, agg_at, item_of, item_at, from_at, nulls_at, order_add, order_at, strength_at, lock_of, lock_at, query_of, select_at}
+use Rattle.sql_parser.specs.Queries.{alias_at, policy_at}
+use Rattle.sql_parser.specs.Grammar.{Is, Key, Names, Commas, AliasIs, no_alias, as_alias, bare_alias, AggIs, all_rows, of_values, AddsItem, a_star, a_value, an_aggregate, FromIs, no_table, from_table, DirectionIs, as_ever, ascending, descending, NullsAre, unsaid, nulls_first, nulls_last, AddsKey, adds_key, OrderIs, unordered, ordered, StrengthIs, for_update, for_no_key_update, for_share, for_key_share, PolicyIs, wait, no_wait, skip_locked, LockIs, no_lock, locks, WhereIs, unfiltered, Spells, select}
 use Rattle.sql_parser.proofs.Locals.{Inhabited, Local, Begun, took, stopped, gives, gives_at, gives_end, behind, same_at, switch_at, switch_end, in_turn, mapped, token_then, token_last, name_then, list_local, some_list, chosen}
 use Rattle.sql_parser.proofs.StmtLocals.{a_word, a_sign, a_name, the_name, key_is}
 use Rattle.sql_parser.proofs.ChangeLocals.{where_local}
@@ -273,12 +274,33 @@ module _ (last : ℕ) (E : Tokens → Tree → Type 0) (W Any : Type 0) (an_expr
       same_at last E W Any (Commas (AddsKey E) []) (λ xs w. OrderIs E (o ∷ b ∷ xs) w) (items_at (order_add last) []) (items_at (order_add last) []) vs (λ xs ks q. ordered o b xs ks ho hb q) (λ ws h. refl) (list_local last E W Any (order_add last) (AddsKey E) adds_some_key order_add_local [] vs)))
       (gives last E W Any (OrderIs E) [] ts unordered)
 
+  strength_local : (ts : Tokens) → Local last E W Any StrengthIs (strength_at last) ts
+  unfolding strength_at
+  strength_local ts = chosen last E W Any StrengthIs (is_word words.No) (λ us. keyword last words.Key us >>= λ vs. keyword last words.Update vs >>= λ rest. Ok (strengths.NoKeyUpdate, rest)) (λ us. option_map_or (λ vs. keyword last words.Share vs >>= λ rest. Ok (strengths.KeyShare, rest)) (after (is_word words.Key) us) (option_map_or (λ vs. Ok (strengths.Update, vs)) (after (is_word words.Update) us) (keyword last words.Share us >>= λ rest. Ok (strengths.Share, rest)))) ts
+      (λ n us hn. token_then last E W Any (λ xs w. StrengthIs (n ∷ xs) w) (is_word words.Key) (λ vs. keyword last words.Update vs >>= λ rest. Ok (strengths.NoKeyUpdate, rest)) us
+      (a_word words.Key ∷ a_word words.Update ∷ [], strengths.NoKeyUpdate, for_no_key_update n (a_word words.Key) (a_word words.Update) hn (key_is words.Key []) (key_is words.Update [])) (λ k vs hk.
+      token_last last E W Any (λ xs w. StrengthIs (n ∷ k ∷ xs) w) (is_word words.Update) strengths.NoKeyUpdate vs (a_word words.Update ∷ [], strengths.NoKeyUpdate, for_no_key_update n k (a_word words.Update) hn hk (key_is words.Update [])) (λ u hu. for_no_key_update n k u hn hk hu)))
+      (chosen last E W Any StrengthIs (is_word words.Key) (λ us. keyword last words.Share us >>= λ rest. Ok (strengths.KeyShare, rest)) (λ us. option_map_or (λ vs. Ok (strengths.Update, vs)) (after (is_word words.Update) us) (keyword last words.Share us >>= λ rest. Ok (strengths.Share, rest))) ts
+      (λ k us hk. token_last last E W Any (λ xs w. StrengthIs (k ∷ xs) w) (is_word words.Share) strengths.KeyShare us (a_word words.Share ∷ [], strengths.KeyShare, for_key_share k (a_word words.Share) hk (key_is words.Share [])) (λ s hs. for_key_share k s hk hs))
+      (chosen last E W Any StrengthIs (is_word words.Update) (λ us. Ok (strengths.Update, us)) (λ us. keyword last words.Share us >>= λ rest. Ok (strengths.Share, rest)) ts
+      (λ u us hu. gives last E W Any (λ xs w. StrengthIs (u ∷ xs) w) strengths.Update us (for_update u hu))
+      (token_last last E W Any StrengthIs (is_word words.Share) strengths.Share ts (a_word words.Share ∷ [], strengths.Share, for_share (a_word words.Share) (key_is words.Share [])) (λ s hs. for_share s hs))))
+
+  policy_local : (ts : Tokens) → Local last E W Any PolicyIs (policy_at last) ts
+  unfolding policy_at
+  policy_local ts = chosen last E W Any PolicyIs (is_word words.NoWait) (λ us. Ok (policies.NoWait, us)) (λ us. option_map_or (λ vs. keyword last words.Locked vs >>= λ rest. Ok (policies.SkipLocked, rest)) (after (is_word words.Skip) us) (Ok (policies.Wait, us))) ts
+      (λ n us hn. gives last E W Any (λ xs w. PolicyIs (n ∷ xs) w) policies.NoWait us (no_wait n hn))
+      (chosen last E W Any PolicyIs (is_word words.Skip) (λ us. keyword last words.Locked us >>= λ rest. Ok (policies.SkipLocked, rest)) (λ us. Ok (policies.Wait, us)) ts
+      (λ s us hs. token_last last E W Any (λ xs w. PolicyIs (s ∷ xs) w) (is_word words.Locked) policies.SkipLocked us (a_word words.Locked ∷ [], policies.SkipLocked, skip_locked s (a_word words.Locked) hs (key_is words.Locked [])) (λ l hl. skip_locked s l hs hl))
+      (gives last E W Any PolicyIs policies.Wait ts wait))
+
   lock_local : (ts : Tokens) → Local last E W Any LockIs (lock_at last) ts
   unfolding lock_at
-  lock_local ts = chosen last E W Any LockIs (is_word words.For) (λ us. option_map_or (λ rest. Ok (Some locks.Update, rest)) (after (is_word words.Update) us) (keyword last words.Share us >>= λ rest. Ok (Some locks.Share, rest))) (λ us. Ok (None, us)) ts
-      (λ f us hf. chosen last E W Any (λ xs w. LockIs (f ∷ xs) w) (is_word words.Update) (λ rest. Ok (Some locks.Update, rest)) (λ vs. keyword last words.Share vs >>= λ rest. Ok (Some locks.Share, rest)) us
-      (λ u vs hu. gives last E W Any (λ xs w. LockIs (f ∷ u ∷ xs) w) (Some locks.Update) vs (for_update f u hf hu))
-      (token_last last E W Any (λ xs w. LockIs (f ∷ xs) w) (is_word words.Share) (Some locks.Share) us (a_word words.Share ∷ [], Some locks.Share, for_share f (a_word words.Share) hf (key_is words.Share [])) (λ s hs. for_share f s hf hs)))
+  lock_local ts = chosen last E W Any LockIs (is_word words.For) (λ us. strength_at last us >>= λ s. policy_at last s.1 >>= λ p. Ok (Some (lock_of s.0 p.0), p.1)) (λ us. Ok (None, us)) ts
+      (λ f us hf. in_turn last E W Any StrengthIs (λ xs w. LockIs (f ∷ xs) w) (strength_at last) (λ s r. policy_at last r >>= λ p. Ok (Some (lock_of s p.0), p.1)) us
+      (λ ss s q. ([], Some (lock_of s policies.Wait), locks f ss [] s policies.Wait hf q wait))
+      (strength_local us) (λ s ss rest split q.
+      mapped last E W Any PolicyIs (λ xs w. LockIs (f ∷ (ss ++ xs)) w) (policy_at last) (λ p. Some (lock_of s p)) rest (λ ps p k. locks f ss ps s p hf q k) (policy_local rest)))
       (gives last E W Any LockIs None ts no_lock)
 
   -- ---- SELECT

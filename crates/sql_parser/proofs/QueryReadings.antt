@@ -10,7 +10,9 @@ use Rattle.sql_trees.specs.declared.word.Word.TheVariants as words
 use Rattle.sql_trees.specs.declared.expr.AggKind.{AggKind}
 use Rattle.sql_trees.specs.declared.expr.AggKind.TheVariants as aggs
 use Rattle.sql_trees.specs.declared.stmt.Lock.{Lock}
-use Rattle.sql_trees.specs.declared.stmt.Lock.TheVariants as locks
+use Rattle.sql_trees.specs.declared.stmt.Strength.{Strength}
+use Rattle.sql_trees.specs.declared.stmt.Strength.TheVariants as strengths
+use Rattle.sql_trees.specs.declared.stmt.Policy.{Policy}
 use Rattle.sql_trees.specs.Statements.{ItemTree, OrderTree, SelectTree, Selects, Value, Aggregate}
 use Rattle.sql_trees.specs.Tokens.{Tokens}
 use Rattle.sql_trees.specs.Trees.{Tree, AggTree, CountRows, Of}
@@ -20,7 +22,7 @@ use Rattle.sql_expressions.specs.Reading.{agg_kind}
 use Rattle.sql_blocks.specs.Parts.{is_allowed}
 use Rattle.sql_parser.specs.Readers.{maybe, list_of, one_of, tree_at, whole}
 use Rattle.sql_parser.specs.Changes.{filter_at}
-use Rattle.sql_parser.specs.Queries.{alias_at, call_at, item_at, sort_key_at, select_at}
+use Rattle.sql_parser.specs.Queries.{alias_at, call_at, item_at, sort_key_at, strength_at, policy_at, lock_behind, select_at}
 use Rattle.sql_parser.specs.Inner.Queries as queries
 use Rattle.sql_parser.proofs.Readings.{turned, bind_on, option_on, items_alike, two_words}
 use Rattle.sql_parser.proofs.TableReadings.{chain, ended, stated}
@@ -118,17 +120,27 @@ module _ (last : ℕ) where
   unfolding queries.order_at
   sorted_same ts = option_on (after (is_word words.Order) ts) _ _ _ _ (λ us. bind_on (keyword last words.By us) _ _ keys_read) refl
 
-  lock_same : (ts : Tokens) → maybe (is_word words.For) (one_of last ((words.Update, locks.Update) ∷ (words.Share, locks.Share) ∷ [])) ts ≡ queries.lock_at last ts
-  unfolding queries.lock_at
-  lock_same ts = option_on (after (is_word words.For) ts) _ _ _ _ (λ us. ap (turned (λ l. Some l)) (two_words last words.Update words.Share locks.Update locks.Share us) ∙ of_update us (after (is_word words.Update) us)) refl
-    where
-      of_share : (r : Result Tokens SqlFault) → turned (λ (l : Lock). Some l) (r >>= λ vs. Ok (locks.Share, vs)) ≡ (r >>= λ vs. Ok (Some locks.Share, vs))
-      of_share (Ok vs) = refl
-      of_share (Err e) = refl
+  -- ---- FOR
 
-      of_update : (us : Tokens) (o : Option Tokens) → turned (λ (l : Lock). Some l) (option_map_or (λ vs. Ok (locks.Update, vs)) o (keyword last words.Share us >>= λ vs. Ok (locks.Share, vs))) ≡ option_map_or (λ vs. Ok (Some locks.Update, vs)) o (keyword last words.Share us >>= λ vs. Ok (Some locks.Share, vs))
-      of_update us None = of_share (keyword last words.Share us)
-      of_update us (Some vs) = refl
+  strength_same : (ts : Tokens) → strength_at last ts ≡ queries.strength_at last ts
+  unfolding strength_at queries.strength_at
+  strength_same ts = option_on (after (is_word words.No) ts) _ _ _ _ (λ us. refl) (option_on (after (is_word words.Key) ts) _ _ _ _ (λ us. refl) (two_words last words.Update words.Share strengths.Update strengths.Share ts))
+
+  -- what follows how strongly the rows are locked
+  abbrev with_policy : Strength × Tokens → Result (Lock × Tokens) SqlFault
+  with_policy s = turned (queries.lock_of s.0) (policy_at last s.1)
+
+  lock_same : (ts : Tokens) → maybe (is_word words.For) (lock_behind last) ts ≡ queries.lock_at last ts
+  unfolding lock_behind queries.lock_at
+  lock_same ts = option_on (after (is_word words.For) ts) _ _ _ _ (λ us. ap (λ (r : Result (Strength × Tokens) SqlFault). turned (λ (l : Lock). Some l) (r >>= with_policy)) (strength_same us) ∙ of_strength (queries.strength_at last us)) refl
+    where
+      of_policy : (s : Strength) (r : Result (Policy × Tokens) SqlFault) → turned (λ (l : Lock). Some l) (turned (queries.lock_of s) r) ≡ turned (λ p. Some (queries.lock_of s p)) r
+      of_policy s (Ok p) = refl
+      of_policy s (Err e) = refl
+
+      of_strength : (r : Result (Strength × Tokens) SqlFault) → turned (λ (l : Lock). Some l) (r >>= with_policy) ≡ (r >>= λ s. turned (λ p. Some (queries.lock_of s.0 p)) (policy_at last s.1))
+      of_strength (Ok s) = of_policy s.0 (policy_at last s.1)
+      of_strength (Err e) = refl
 
   -- ---- SELECT
 
@@ -147,5 +159,5 @@ module _ (last : ℕ) where
       chain (queries.from_at last i.1) (queries.from_at last i.1) _ _ (ended last) refl (λ t.
       chain (filter_at last t.1) (filter_at last t.1) _ _ (ended last) refl (λ f.
       chain (option_map_or (λ us. keyword last words.By us >>= list_of (λ keys. sort_key_at last)) (after (is_word words.Order) f.1) (Ok ([], f.1))) (queries.order_at last f.1) _ _ (ended last) (sorted_same f.1) (λ o.
-      chain (maybe (is_word words.For) (one_of last ((words.Update, locks.Update) ∷ (words.Share, locks.Share) ∷ [])) o.1) (queries.lock_at last o.1) _ _ (ended last) (lock_same o.1) (λ l.
+      chain (maybe (is_word words.For) (lock_behind last) o.1) (queries.lock_at last o.1) _ _ (ended last) (lock_same o.1) (λ l.
       queried_same place (record { items = i.0; table = t.0; filter = f.0; order = o.0; lock = l.0 }) l.1)))))

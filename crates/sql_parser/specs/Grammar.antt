@@ -269,10 +269,10 @@ pub data OrderIs (E : Tokens → Tree → Type 0) : Tokens → List OrderTree �
 
 -- UPDATE | NO KEY UPDATE | SHARE | KEY SHARE (13.3.2)
 pub data StrengthIs : Tokens → Strength → Type 0 where
-  update : (update : At Token) → Key words.Update update → StrengthIs (update ∷ []) strengths.Update
-  no_key_update : (no key update : At Token) → Key words.No no → Key words.Key key → Key words.Update update → StrengthIs (no ∷ key ∷ update ∷ []) strengths.NoKeyUpdate
-  share : (share : At Token) → Key words.Share share → StrengthIs (share ∷ []) strengths.Share
-  key_share : (key share : At Token) → Key words.Key key → Key words.Share share → StrengthIs (key ∷ share ∷ []) strengths.KeyShare
+  for_update : (update : At Token) → Key words.Update update → StrengthIs (update ∷ []) strengths.Update
+  for_no_key_update : (no key update : At Token) → Key words.No no → Key words.Key key → Key words.Update update → StrengthIs (no ∷ key ∷ update ∷ []) strengths.NoKeyUpdate
+  for_share : (share : At Token) → Key words.Share share → StrengthIs (share ∷ []) strengths.Share
+  for_key_share : (key share : At Token) → Key words.Key key → Key words.Share share → StrengthIs (key ∷ share ∷ []) strengths.KeyShare
 
 -- [NOWAIT | SKIP LOCKED]
 pub data PolicyIs : Tokens → Policy → Type 0 where

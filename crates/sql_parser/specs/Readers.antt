@@ -1,5 +1,5 @@
 -- To be believed. Parts that several kinds of statement have, read in the words of reading.
-use Rattle.std.specs.Prelude.{ℕ, Bool, true, false, List, [], ◌∷◌, ◌++◌, Option, Some, None, Result, Ok, Err}
+use Rattle.std.specs.Prelude.{ℕ, Bool, true, false, List, [], ◌∷◌, Option, Some, None, Result, Ok, Err}
 use Rattle.std.specs.Option.{option_map_or}
 use Rattle.iso_lexer.specs.Bytes.{row_of}
 use Rattle.sql_trees.specs.declared.fault.SqlFault.{SqlFault}

@@ -12,15 +12,17 @@ ghost use Rattle.sql_blocks.specs.Parts.{is_aggregate, is_allowed};
 ghost use Rattle.sql_blocks.specs.Inner.Parts.{is_all, is_sorted};
 ghost use Rattle.sql_parser.specs.Inner.Calls.{seen};
 ghost use Rattle.sql_parser.specs.Inner.Pieces.{agg_item_at};
-ghost use Rattle.sql_parser.specs.Inner.Queries.{call_at, counts_rows, maybe_name, direction_at, item_at, from_at, nulls_at, order_add, order_at, lock_at, select_at};
-ghost use Rattle.sql_parser.specs.Queries.{alias_at};
+ghost use Rattle.sql_parser.specs.Inner.Queries.{call_at, counts_rows, maybe_name, direction_at, item_at, from_at, nulls_at, order_add, order_at, strength_at, lock_at, select_at};
+ghost use Rattle.sql_parser.specs.Queries.{alias_at, policy_at};
 
 use crate::change::{filter, unboxed};
 use crate::list::{List, items};
 use crate::part::{after_open, after_word, close, expr, keyword, name};
 use iso_lexer::{At, Name, SqlSign};
 use sql_expressions::{Parser, Tokens};
-use sql_trees::{Agg, AggKind, Dir, Item, Lock, OrderKey, Select, SqlFault, Stmt, Tok, Word};
+use sql_trees::{
+    Agg, AggKind, Dir, Item, Lock, OrderKey, Policy, Select, SqlFault, Stmt, Strength, Tok, Word,
+};
 
 /// The items of a SELECT.
 #[derive(Drop)]
@@ -286,7 +288,49 @@ fn order<'t, 'a>(
     Ok((keys, rest))
 }
 
-// FOR UPDATE or FOR SHARE, if any.
+// How strongly the rows are locked: UPDATE, NO KEY UPDATE, SHARE or KEY SHARE.
+#[tactic(auto, unfolding(crate::specs::Inner::Queries::strength_at))]
+fn strength<'t, 'a>(
+    parser: Parser,
+    tokens: Tokens<'t, 'a>,
+) -> Result<(Strength, Tokens<'t, 'a>), SqlFault>
+    ensures { Gives (λ x. (x.0, tok_views x.1.now)) result (strength_at parser.text_len (tok_views tokens.now)) }
+{
+    if let Some(rest) = after_word(Word::No, tokens) {
+        let rest = keyword(parser, Word::Key, rest)?;
+        let rest = keyword(parser, Word::Update, rest)?;
+        return Ok((Strength::NoKeyUpdate, rest));
+    }
+    if let Some(rest) = after_word(Word::Key, tokens) {
+        let rest = keyword(parser, Word::Share, rest)?;
+        return Ok((Strength::KeyShare, rest));
+    }
+    if let Some(rest) = after_word(Word::Update, tokens) {
+        return Ok((Strength::Update, rest));
+    }
+    let rest = keyword(parser, Word::Share, tokens)?;
+    Ok((Strength::Share, rest))
+}
+
+// What is done at a row that others hold: NOWAIT, SKIP LOCKED, or it is waited for.
+#[tactic(auto, unfolding(crate::specs::Queries::policy_at))]
+fn policy<'t, 'a>(
+    parser: Parser,
+    tokens: Tokens<'t, 'a>,
+) -> Result<(Policy, Tokens<'t, 'a>), SqlFault>
+    ensures { Gives (λ x. (x.0, tok_views x.1.now)) result (policy_at parser.text_len (tok_views tokens.now)) }
+{
+    if let Some(rest) = after_word(Word::NoWait, tokens) {
+        return Ok((Policy::NoWait, rest));
+    }
+    let Some(rest) = after_word(Word::Skip, tokens) else {
+        return Ok((Policy::Wait, tokens));
+    };
+    let rest = keyword(parser, Word::Locked, rest)?;
+    Ok((Policy::SkipLocked, rest))
+}
+
+// FOR with how the rows are locked, if any.
 #[tactic(auto, unfolding(crate::specs::Inner::Queries::lock_at))]
 fn lock<'t, 'a>(
     parser: Parser,
@@ -297,11 +341,9 @@ fn lock<'t, 'a>(
     let Some(tokens) = after_word(Word::For, tokens) else {
         return Ok((None, tokens));
     };
-    if let Some(rest) = after_word(Word::Update, tokens) {
-        return Ok((Some(Lock::Update), rest));
-    }
-    let rest = keyword(parser, Word::Share, tokens)?;
-    Ok((Some(Lock::Share), rest))
+    let (strength, rest) = strength(parser, tokens)?;
+    let (policy, rest) = policy(parser, rest)?;
+    Ok((Some(Lock { strength, policy }), rest))
 }
 
 fn is_aggregate(item: &Item) -> bool

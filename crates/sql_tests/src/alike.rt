@@ -2,12 +2,12 @@
 
 use crate::asked::{block_of, holds, is_same};
 use sql_parser::Role;
-use sql_trees::{Key, Level, Lock, Stmt};
+use sql_trees::{Key, Level, Stmt};
 use std::alloc::Global;
 use std::process::Abort;
 
 // Statements of a session.
-const STATEMENTS: [(&str, &str); 37] = [
+const STATEMENTS: [(&str, &str); 38] = [
     ("", " ;; /* a /* b */ */ -- c"),
     ("begin Work", "BEGIN"),
     ("BEGIN TRANSACTION", "BEGIN"),
@@ -96,6 +96,10 @@ const STATEMENTS: [(&str, &str); 37] = [
         "SELECT \"savepoint\" AS \"view\" FROM \"key\"",
     ),
     (
+        "SELECT no nowait, skip FROM key FOR KEY SHARE SKIP LOCKED",
+        "SELECT \"no\" AS \"nowait\", \"skip\" FROM \"key\" FOR KEY SHARE SKIP LOCKED",
+    ),
+    (
         "SELECT a FROM t ORDER BY a",
         "SELECT a FROM t ORDER BY a ASC NULLS LAST",
     ),
@@ -160,7 +164,7 @@ const TABLES: [(&str, &str); 9] = [
 ];
 
 // Texts that are read, and as blocks that differ.
-const UNLIKE: [(&str, &str); 20] = [
+const UNLIKE: [(&str, &str); 22] = [
     ("SELECT a FROM t; COMMIT", "SELECT a FROM t; ROLLBACK"),
     ("SELECT a FROM t; COMMIT", "SELECT a FROM t"),
     ("BEGIN", "BEGIN ISOLATION LEVEL READ COMMITTED"),
@@ -181,6 +185,14 @@ const UNLIKE: [(&str, &str); 20] = [
     (
         "SELECT a FROM t ORDER BY a",
         "SELECT a FROM t ORDER BY a NULLS FIRST",
+    ),
+    (
+        "SELECT a FROM t FOR UPDATE",
+        "SELECT a FROM t FOR NO KEY UPDATE",
+    ),
+    (
+        "SELECT a FROM t FOR SHARE NOWAIT",
+        "SELECT a FROM t FOR SHARE SKIP LOCKED",
     ),
     ("CREATE TABLE t (a int)", "CREATE TABLE t (a int NOT NULL)"),
     (
@@ -226,11 +238,7 @@ fn kind(stmt: &Stmt<'_>) -> &'static str {
         Stmt::Insert(_) => "Insert",
         Stmt::Update(_) => "Update",
         Stmt::Delete(_) => "Delete",
-        Stmt::Select(select) => match select.lock {
-            None => "Select",
-            Some(Lock::Update) => "Select ForUpdate",
-            Some(Lock::Share) => "Select ForShare",
-        },
+        Stmt::Select(_) => "Select",
     }
 }
 
@@ -245,7 +253,7 @@ fn is_one(alloc: Global, text: &str, told: &str) -> bool {
     }
 }
 
-const KINDS: [(&str, &str); 17] = [
+const KINDS: [(&str, &str); 15] = [
     ("begin", "Begin"),
     (
         "begin isolation level read committed",
@@ -273,8 +281,6 @@ const KINDS: [(&str, &str); 17] = [
     ("delete from t", "Delete"),
     ("select 1", "Select"),
     ("select count(*)", "Select"),
-    ("select * from t for update", "Select ForUpdate"),
-    ("select a from t for share", "Select ForShare"),
 ];
 
 #[test]

@@ -10,6 +10,8 @@ mod expressions;
 #[cfg(test)]
 mod limits;
 #[cfg(test)]
+mod locks;
+#[cfg(test)]
 mod memory;
 #[cfg(test)]
 mod refused;

@@ -88,7 +88,7 @@ const TABLES: [(&str, &str); 36] = [
 ];
 
 // What a session's block may not be.
-const STATEMENTS: [(&str, &str); 103] = [
+const STATEMENTS: [(&str, &str); 99] = [
     ("BEGIN foo", "Q1 Syntax at byte 6"),
     ("BEGIN TRANSACTION WORK", "Q1 Syntax at byte 18"),
     ("BEGIN NOT DEFERRABLE", "Q1 Syntax at byte 6"),
@@ -176,14 +176,7 @@ const STATEMENTS: [(&str, &str); 103] = [
     ("SELECT a ORDER a", "Q1 Syntax at byte 15"),
     ("SELECT a ORDER BY a NULLS foo", "Q1 Syntax at byte 26"),
     ("SELECT a ORDER BY a USING b", "Q2 LeftOut at byte 20"),
-    ("SELECT a FROM t FOR NO KEY UPDATE", "Q2 LeftOut at byte 20"),
-    ("SELECT a FROM t FOR KEY SHARE", "Q2 LeftOut at byte 20"),
     ("SELECT a FROM t FOR UPDATE OF t", "Q1 Syntax at byte 27"),
-    ("SELECT a FROM t FOR UPDATE NOWAIT", "Q2 LeftOut at byte 27"),
-    (
-        "SELECT a FROM t FOR UPDATE SKIP LOCKED",
-        "Q2 LeftOut at byte 27",
-    ),
     ("SELECT a.b FROM t", "Q2 LeftOut at byte 8"),
     ("SELECT a::int", "Q2 LeftOut at byte 8"),
     ("SELECT f(1)", "Q2 LeftOut at byte 8"),
@@ -212,6 +205,40 @@ const STATEMENTS: [(&str, &str); 103] = [
     ("foo; CREATE; SELECT #", "L4 UnexpectedByte at byte 20"),
 ];
 
+// Locks that lack a word, or have one too many.
+const LOCKS: [(&str, &str); 18] = [
+    ("SELECT a FROM t FOR", "Q1 Syntax at byte 19"),
+    ("SELECT a FROM t FOR NO", "Q1 Syntax at byte 22"),
+    ("SELECT a FROM t FOR NO KEY", "Q1 Syntax at byte 26"),
+    ("SELECT a FROM t FOR NO KEY SHARE", "Q1 Syntax at byte 27"),
+    ("SELECT a FROM t FOR NO UPDATE", "Q1 Syntax at byte 23"),
+    ("SELECT a FROM t FOR KEY", "Q1 Syntax at byte 23"),
+    ("SELECT a FROM t FOR KEY UPDATE", "Q1 Syntax at byte 24"),
+    ("SELECT a FROM t FOR READ", "Q2 LeftOut at byte 20"),
+    ("SELECT a FROM t FOR NOWAIT", "Q1 Syntax at byte 20"),
+    ("SELECT a FROM t FOR SKIP LOCKED", "Q1 Syntax at byte 20"),
+    ("SELECT a FROM t FOR SHARE SKIP", "Q1 Syntax at byte 30"),
+    (
+        "SELECT a FROM t FOR KEY SHARE SKIP NOWAIT",
+        "Q1 Syntax at byte 35",
+    ),
+    ("SELECT a FROM t FOR SHARE LOCKED", "Q1 Syntax at byte 26"),
+    ("SELECT a FROM t FOR SHARE LOCK", "Q2 LeftOut at byte 26"),
+    (
+        "SELECT a FROM t FOR UPDATE NOWAIT SKIP LOCKED",
+        "Q1 Syntax at byte 34",
+    ),
+    (
+        "SELECT a FROM t FOR UPDATE FOR SHARE",
+        "Q1 Syntax at byte 27",
+    ),
+    (
+        "SELECT a FROM t FOR NO KEY UPDATE ORDER BY a",
+        "Q1 Syntax at byte 34",
+    ),
+    ("SELECT 1 FOR KEY SHARE NOWAIT", "Q2 LeftOut at byte 0"),
+];
+
 fn all_refused(rt: &impl Abort, alloc: Global, role: Role, rows: &[(&str, &str)]) {
     for (text, fault) in rows {
         holds(rt, is_refused(alloc, role, *text, *fault), *text);
@@ -222,4 +249,5 @@ fn all_refused(rt: &impl Abort, alloc: Global, role: Role, rows: &[(&str, &str)]
 fn faults_and_their_places(rt: HostRuntime) {
     all_refused(&rt, rt.alloc(), Role::Main, TABLES.as_slice());
     all_refused(&rt, rt.alloc(), Role::Session, STATEMENTS.as_slice());
+    all_refused(&rt, rt.alloc(), Role::Session, LOCKS.as_slice());
 }

@@ -51,7 +51,7 @@ const LEFT_OUT: [&str; 41] = [
 ];
 
 // Words that are names, and elsewhere stand for a part that is left out.
-const NAMES_LEFT_OUT: [&str; 22] = [
+const NAMES_LEFT_OUT: [&str; 18] = [
     "SERIALIZABLE",
     "READ",
     "ONLY",
@@ -70,11 +70,10 @@ const NAMES_LEFT_OUT: [&str; 22] = [
     "VIEW",
     "INDEX",
     "SEQUENCE",
-    "NO",
-    "KEY",
-    "NOWAIT",
-    "SKIP",
 ];
+
+// Words of a lock: names, which elsewhere stand for no part that is left out.
+const LOCK_WORDS: [&str; 6] = ["NO", "KEY", "SHARE", "NOWAIT", "SKIP", "LOCKED"];
 
 // Words that are no names and stand for no part that is left out, but FROM.
 const NO_NAMES: [&str; 21] = [
@@ -125,6 +124,8 @@ fn words_that_are_no_alias(rt: HostRuntime) {
     let fault = "Q2 LeftOut at byte 16";
     all_refused(&rt, rt.alloc(), front, LEFT_OUT.as_slice(), fault);
     all_refused(&rt, rt.alloc(), front, NAMES_LEFT_OUT.as_slice(), fault);
+    let fault = "Q1 Syntax at byte 16";
+    all_refused(&rt, rt.alloc(), front, LOCK_WORDS.as_slice(), fault);
 }
 
 #[test]
@@ -155,6 +156,7 @@ fn words_that_are_names(rt: HostRuntime) {
         NAMES_LEFT_OUT.as_slice(),
         "",
     );
+    all_read(&rt, rt.alloc(), "DROP TABLE ", LOCK_WORDS.as_slice(), "");
     all_read(&rt, rt.alloc(), "DROP TABLE \"", LEFT_OUT.as_slice(), "\"");
     all_read(&rt, rt.alloc(), "DROP TABLE \"", NO_NAMES.as_slice(), "\"");
 }

@@ -1,4 +1,4 @@
-//! Tests of values, row versions, unique keys and tables, by what these crates give to callers. They pass where any one allocation fails, too: what was refused memory
+//! Tests of values, row versions, unique keys, updates that leave them, and tables, by what these crates give to callers. They pass where any one allocation fails, too: what was refused memory
 //! is asked again.
 #![tactic(auto)]
 
@@ -8,6 +8,8 @@ mod example;
 mod expressions;
 #[cfg(test)]
 mod keys;
+#[cfg(test)]
+mod leaving;
 #[cfg(test)]
 mod sizes;
 #[cfg(test)]

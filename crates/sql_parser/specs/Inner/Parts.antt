@@ -1,5 +1,5 @@
 -- Parts of readings as the code reads them.
-use Rattle.std.specs.Prelude.{ℕ, Bool, ◌∷◌, ◌++◌, unwrap_or}
+use Rattle.std.specs.Prelude.{ℕ, Bool, unwrap_or}
 use Rattle.sql_trees.specs.declared.fault.SqlFault.{SqlFault}
 use Rattle.sql_trees.specs.declared.fault.SqlFault.TheVariants.{LeftOut}
 use Rattle.sql_trees.specs.Tokens.{Token, Tokens}

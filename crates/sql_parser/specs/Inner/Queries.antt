@@ -8,7 +8,9 @@ use Rattle.sql_trees.specs.declared.word.Word.TheVariants as words
 use Rattle.sql_trees.specs.declared.expr.AggKind.{AggKind}
 use Rattle.sql_trees.specs.declared.expr.AggKind.TheVariants as aggs
 use Rattle.sql_trees.specs.declared.stmt.Lock.{Lock}
-use Rattle.sql_trees.specs.declared.stmt.Lock.TheVariants as locks
+use Rattle.sql_trees.specs.declared.stmt.Strength.{Strength}
+use Rattle.sql_trees.specs.declared.stmt.Strength.TheVariants as strengths
+use Rattle.sql_trees.specs.declared.stmt.Policy.{Policy}
 use Rattle.sql_trees.specs.Statements.{StmtTree, ItemTree, All, Value, Aggregate, OrderTree, SelectTree, Selects}
 use Rattle.sql_trees.specs.Tokens.{Tokens, named}
 use Rattle.sql_trees.specs.Trees.{AggTree, CountRows, Of}
@@ -17,7 +19,7 @@ use Rattle.sql_expressions.specs.Reading.{agg_kind}
 use Rattle.sql_blocks.specs.Parts.{is_allowed}
 use Rattle.sql_parser.specs.Readers.{maybe, tree_at}
 use Rattle.sql_parser.specs.Changes.{filter_at}
-use Rattle.sql_parser.specs.Queries.{alias_at}
+use Rattle.sql_parser.specs.Queries.{alias_at, policy_at}
 
 -- an aggregate's name with an open parenthesis behind it, and the tokens behind that
 abbrev pub call_at : Tokens → Option (AggKind × Tokens)
@@ -35,6 +37,10 @@ maybe_name = by_first named (λ n. gives (Some n)) (gives None)
 -- ASC, DESC or none of them: whether sorting goes down
 unfoldable pub direction_at : Reader Bool
 direction_at = either (is_word words.Asc) (gives false) (either (is_word words.Desc) (gives true) (gives false))
+
+-- a lock of these parts
+abbrev pub lock_of : Strength → Policy → Lock
+lock_of s p = record { strength = s; policy = p }
 
 module _ (last : ℕ) where
   -- an aggregate behind its open parenthesis
@@ -69,9 +75,17 @@ module _ (last : ℕ) where
   unfoldable pub order_at : Reader (List OrderTree)
   order_at = either (is_word words.Order) (keyword last words.By >> items_at order_add []) (gives [])
 
-  -- FOR UPDATE or FOR SHARE, if any
+  -- UPDATE or SHARE
+  abbrev pub update_or_share : Reader Strength
+  update_or_share = either (is_word words.Update) (gives strengths.Update) (keyword last words.Share >> gives strengths.Share)
+
+  -- how strongly the rows are locked: UPDATE, NO KEY UPDATE, SHARE or KEY SHARE
+  unfoldable pub strength_at : Reader Strength
+  strength_at = either (is_word words.No) (keyword last words.Key >> (keyword last words.Update >> gives strengths.NoKeyUpdate)) (either (is_word words.Key) (keyword last words.Share >> gives strengths.KeyShare) update_or_share)
+
+  -- FOR with how the rows are locked, if any
   unfoldable pub lock_at : Reader (Option Lock)
-  lock_at = either (is_word words.For) (either (is_word words.Update) (gives (Some locks.Update)) (keyword last words.Share >> gives (Some locks.Share))) (gives None)
+  lock_at = either (is_word words.For) (strength_at >>= λ s. made (λ p. Some (lock_of s p)) (policy_at last)) (gives None)
 
 -- ---- what has to hold of the whole
 
