@@ -231,9 +231,7 @@ impl<'a, 't, V: Versions> Database<'a, 't, V> {
     {
         match self.find_key(work, key, values, except)? {
             Found::Free => Ok(None),
-            Found::Taken(version) if do_nothing => {
-                Ok(Some(self.does_nothing(work, &version)?))
-            }
+            Found::Taken(version) if do_nothing => { Ok(Some(self.does_nothing(work, &version)?)) }
             Found::Taken(_) => {
                 let fault = self.taken(work, name, key)?;
                 Ok(Some(Meets::Stops(Stop::Fails(fault))))

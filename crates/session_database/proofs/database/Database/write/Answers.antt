@@ -16,5 +16,8 @@ invariant_of-self-in-Err g c =
     let made_by = λ (x : Write). x.tx in
     let written : c.self.inside.writers.items ++ by.tx ∷ [] ≡ map made_by (content.log ++ w ∷ []) =
     ap (λ (txs : List TxId). txs ++ by.tx ∷ []) c.self.invariant.1 ∙ sym (map-append made_by content.log (w ∷ [])) in
-    rw (c.forget.ensures, c.in-Err.ensures.err, c.roll_back.ensures, c.in-Ok.ensures.ok) ((c.index_keeps_up.ensures.goes_on.1 c.self.inside.keys content c.self.invariant.0).takes_back w is_open,
-    c.in_ok-push.ensures.items ∙ written, c.self.invariant.2)
+    rw (c.forget.ensures, c.in-Err.ensures.err, c.roll_back.ensures, c.in-Ok.ensures.ok) (
+      (c.index_keeps_up.ensures.goes_on.1 c.self.inside.keys content c.self.invariant.0).takes_back w is_open,
+      c.in_ok-push.ensures.items ∙ written,
+      c.self.invariant.2,
+    )
