@@ -56,7 +56,8 @@ fn inserted_to<'t>(
     Ok(all_or_none(alloc, found))
 }
 
-/// A new row has these values, which RETURNING answers.
+/// A new row has these values. What RETURNING answers for it is worked out before the store takes them; a fault in that
+/// still comes behind the write.
 fn insert_made<'a, 't, V: Versions>(
     db: &mut Database<'a, 't, V>,
     work: &Work<'_>,

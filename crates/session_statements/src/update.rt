@@ -83,7 +83,8 @@ fn updated<'a, 't, V: Versions>(
     updated_values(db.alloc(), db.columns_in(work), to, &stmt.sets, row)
 }
 
-/// The row has the new values from here on, which RETURNING answers.
+/// The row has the new values from here on. What RETURNING answers for it is worked out before the store takes them; a
+/// fault in that still comes behind the write.
 fn update_made<'a, 't, V: Versions>(
     db: &mut Database<'a, 't, V>,
     work: &Work<'_>,
