@@ -24,6 +24,8 @@ mod random_keys;
 #[cfg(test)]
 mod refusals;
 #[cfg(test)]
+mod returning;
+#[cfg(test)]
 mod selects;
 #[cfg(test)]
 mod sessions;

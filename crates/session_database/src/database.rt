@@ -1,8 +1,8 @@
 //! What all sessions share.
 
-ghost use Rattle.std.specs.Prelude.{◌≡◌, [], ◌+◌, ◌<◌, ◌^◌, length, List, map, option_map, unwrap_or, Some, IfOk, IfSome, OnOk, OnErr};
+ghost use Rattle.std.specs.Prelude.{◌≡◌, [], ◌+◌, ◌<◌, ◌^◌, false, length, List, map, option_map, slice_get, unwrap_or, Some, IfOk, IfSome, OnOk, OnErr};
 ghost use Rattle.std.specs.Global.{Vec};
-ghost use Rattle.std.specs.Option.{option_copied};
+ghost use Rattle.std.specs.Option.{option_copied, option_map_or};
 ghost use Rattle.sql_trees.specs.Statements.{create_of, column_of, key_of, name_of};
 ghost use Rattle.sql_values.specs.declared.value.Value.{Value};
 ghost use Rattle.row_versions.specs.Log.{empty_content, new_row, values_at, IsOpen};
@@ -10,6 +10,8 @@ ghost use Rattle.session_machine.specs.Tables.{find_table};
 ghost use Rattle.session_machine.specs.Waits.{is_blocked};
 ghost use Rattle.session_machine.specs.Transactions.{committed, rolled_back, fresh, view_of, started, own_of, view_now};
 ghost use Rattle.row_versions.specs.declared.write.Seen.{Seen as SeenFacts};
+ghost use Rattle.row_versions.specs.declared.write.Write.{Write as WriteFacts};
+ghost use Rattle.row_versions.specs.Members.{same_tx};
 ghost use Rattle.row_versions.specs.Rows.{rows_of};
 ghost use Rattle.session_machine.specs.Inner.Pieces.{table_columns, with_table, with_drop};
 ghost use Rattle.session_machine.specs.declared.session.OpenTransaction.{OpenTransaction as OpenFacts};
@@ -39,12 +41,15 @@ pub struct Database<'a, 't, V: Versions> {
     pub(crate) keys: KeyIndex,
     catalog: Catalog<'a, 't>,
     pub(crate) locks: LockTable,
+    /// Who made each write, in the order of the store's log.
+    writers: Vec<TxId>,
     /// Has no values: it is lent where a version has none.
     empty: Row,
 }
 
 impl<'a, 't, V: Versions> Model for Database<'a, 't, V> {
-    ghost use Rattle.std.specs.Prelude.{◌≡◌, []};
+    ghost use Rattle.std.specs.Prelude.{◌≡◌, [], map};
+    ghost use Rattle.row_versions.specs.declared.write.Write.{Write};
     ghost use Rattle.session_machine.specs.Tables.{Database as DatabaseFacts};
     ghost use Rattle.unique_keys.specs.Laws.{KeepsUp};
 
@@ -52,7 +57,7 @@ impl<'a, 't, V: Versions> Model for Database<'a, 't, V> {
 
     ghost view = { λ d. record { content = V.content d.store; catalog = d.catalog; held = d.locks } };
 
-    ghost invariant = { λ d. KeepsUp d.keys (V.content d.store) × (d.empty ≡ []) };
+    ghost invariant = { λ d. KeepsUp d.keys (V.content d.store) × (d.writers.items ≡ map (λ (w : Write). w.tx) (V.content d.store).log) × (d.empty ≡ []) };
 }
 
 impl<'a, 't, V: Versions> Database<'a, 't, V> {
@@ -68,6 +73,7 @@ impl<'a, 't, V: Versions> Database<'a, 't, V> {
             keys: KeyIndex::new(alloc),
             catalog: Catalog::new(alloc),
             locks: LockTable::new(alloc),
+            writers: Vec::new(alloc),
             empty: Row::from_vec(Vec::new(alloc)),
         }
     }
@@ -177,7 +183,9 @@ impl<'a, 't, V: Versions> Database<'a, 't, V> {
         let noted = copied(self.alloc, values.as_ref())?;
         let by = work.by;
         let table = TableId(work.place as u64);
+        self.writers.push(by.tx)?;
         let Ok(made) = self.store.write(by.tx, by.command, table, row, values) else {
+            self.writers.pop();
             return Err(AllocError);
         };
         match self.keys.enter(table, made, by.tx, noted) {
@@ -317,6 +325,16 @@ impl<'a, 't, V: Versions> Database<'a, 't, V> {
         ensures { IfOk result (λ seen. seen.items ≡ seen_by self.now work.now) }
     {
         self.seen(&work.view, work.place)
+    }
+
+    /// Whether the statement's transaction wrote the version. It takes no memory.
+    pub(crate) fn is_own(&self, work: &Work<'_>, version: &Seen) -> bool
+        ensures { result ≡ option_map_or (λ (w : WriteFacts). same_tx w.tx work.now.t.tx) (slice_get self.now.content.log version.now.place) false }
+    {
+        match self.writers.get(version.place as usize) {
+            Some(writer) => writer.0 == work.by.tx.0,
+            None => false,
+        }
     }
 
     /// The values of the version.

@@ -1,29 +1,31 @@
-//! Keys: what stops a statement that is about to write a row (PostgreSQL manual, 5.5.3).
+//! Keys: what a row meets that is about to be written (PostgreSQL manual, 5.5.3, and the page of INSERT, "ON CONFLICT Clause").
 
-ghost use Rattle.std.specs.Prelude.{◌≡◌, ◌<◌, ◌++◌, ◌∷◌, List, length, map, option_map, IfOk};
+ghost use Rattle.std.specs.Prelude.{◌≡◌, ◌<◌, ◌==◌, ◌++◌, ◌∷◌, List, length, map, option_map, IfOk};
+ghost use Rattle.std.specs.List.{list_any};
 ghost use Rattle.sql_trees.specs.Statements.{column_of, key_name, key_of, name_of};
 ghost use Rattle.sql_trees.specs.Inner.KeyNames.{underscored};
 ghost use Rattle.row_versions.specs.declared.names.TxId.{TxId as TxFacts};
+ghost use Rattle.row_versions.specs.declared.write.Seen.{Seen as SeenFacts};
 ghost use Rattle.row_versions.specs.Log.{IsOpen};
 ghost use Rattle.row_locks.specs.Cycles.{closes};
 ghost use Rattle.update_recheck.specs.Settling.{SameMembers};
 ghost use Rattle.unique_keys.specs.Checks.{NamesBlockers, found_of, key_found};
-ghost use Rattle.session_machine.specs.Rows.{columns_in, stop_at_key};
+ghost use Rattle.session_machine.specs.Rows.{columns_in, does_nothing, is_known, meet_key};
 ghost use Rattle.session_machine.specs.Targets.{asked_key, names_at};
 ghost use Rattle.session_machine.specs.Inner.Pieces.{held_by_others};
 ghost use Rattle.session_machine.specs.Waits.{blockers, is_blocked, waits_in};
-ghost use Rattle.session_database.specs.Stops.{stop_of};
+ghost use Rattle.session_database.specs.Stops.{meets_of, stop_of};
 ghost use Rattle.session_database.specs.Inner.Keys.{column_name_at};
 
 use crate::database::Database;
-use crate::stop::Stop;
+use crate::stop::{Meets, Stop};
 use crate::work::Work;
 use iso_lexer::Name;
 use row_locks::laws::{cycle_test_is_exact, cycles_by_who_blocks};
-use row_versions::{RowId, TableId, TxId, Versions};
+use row_versions::{RowId, Seen, TableId, TxId, Versions};
 use session_machine::{KeyAsked, KeyName, Request, StmtFault};
 use smallvec::SmallVec;
-use sql_trees::{Column, Key};
+use sql_trees::{Column, Key, Level};
 use sql_values::Row;
 use std::alloc::{AllocError, Global};
 use unique_keys::Found;
@@ -76,6 +78,13 @@ fn key_name(
     let mut text = push_columns(alloc, text, columns, &key.columns)?;
     text.extend_from_slice(b"_key")?;
     Ok(text)
+}
+
+/// Whether one of the versions stands at the place.
+fn has_place(versions: &[Seen], place: u64) -> bool
+    ensures { result ≡ list_any (λ (s : SeenFacts). s.place == place) versions.now }
+{
+    versions.iter().any(|version| version.place == place)
 }
 
 impl<'a, 't, V: Versions> Database<'a, 't, V> {
@@ -183,23 +192,54 @@ impl<'a, 't, V: Versions> Database<'a, 't, V> {
         Ok(StmtFault::KeyTaken(KeyName::of(text)))
     }
 
-    /// What stops the statement at one key.
-    pub fn stop_at_key(
+    /// Whether the statement's view shows the version, or its transaction wrote it.
+    fn is_known(&self, work: &Work<'_>, version: &Seen) -> Result<bool, AllocError>
+        ensures { IfOk result (λ yes. yes ≡ is_known self.now work.now version.now) }
+    {
+        let shown = self.seen_by(work)?;
+        Ok(has_place(&shown, version.place) || self.is_own(work, version))
+    }
+
+    /// The key is taken by this version, and the statement does nothing where it is.
+    fn does_nothing(&self, work: &Work<'_>, version: &Seen) -> Result<Meets<'t>, AllocError>
+        ensures { IfOk result (λ met. meets_of met ≡ does_nothing self.now work.now version.now) }
+    {
+        let is_passed = match work.by.level {
+            Level::ReadCommitted => true,
+            Level::RepeatableRead => self.is_known(work, version)?,
+        };
+        if is_passed {
+            Ok(Meets::PassesOver)
+        } else {
+            Ok(Meets::Stops(Stop::Fails(StmtFault::NotSerializable)))
+        }
+    }
+
+    /// What a row of these values, which is about to be written in place of that one or as a new one, meets at one key of the table of this name.
+    pub fn meet_key(
         &self,
         work: &Work<'_>,
         name: &Name<'t>,
+        do_nothing: bool,
         key: &Key,
         values: &Row,
         except: Option<RowId>,
-    ) -> Result<Option<Stop<'t>>, AllocError>
+    ) -> Result<Option<Meets<'t>>, AllocError>
         requires opened { IsOpen self.now.content work.now.t.tx }
         requires within { work.now.table < length self.now.catalog.tables }
-        ensures { IfOk result (λ stop. option_map stop_of stop ≡ stop_at_key self.now work.now (name_of name.now) values.now except (key_of key.now)) }
+        ensures { IfOk result (λ met. option_map meets_of met ≡ meet_key self.now work.now (name_of name.now) do_nothing values.now except (key_of key.now)) }
     {
         match self.find_key(work, key, values, except)? {
             Found::Free => Ok(None),
-            Found::Taken => Ok(Some(Stop::Fails(self.taken(work, name, key)?))),
-            Found::Held(by) => Ok(Some(self.held_by_others(work, key, values, &by)?)),
+            Found::Taken(version) if do_nothing => { Ok(Some(self.does_nothing(work, &version)?)) }
+            Found::Taken(_) => {
+                let fault = self.taken(work, name, key)?;
+                Ok(Some(Meets::Stops(Stop::Fails(fault))))
+            }
+            Found::Held(by) => {
+                let stop = self.held_by_others(work, key, values, &by)?;
+                Ok(Some(Meets::Stops(stop)))
+            }
         }
     }
 }

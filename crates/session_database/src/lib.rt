@@ -11,5 +11,5 @@ mod waits;
 mod work;
 
 pub use database::Database;
-pub use stop::Stop;
+pub use stop::{Meets, Stop};
 pub use work::{Surroundings, Work};

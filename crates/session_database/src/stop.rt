@@ -1,4 +1,4 @@
-//! What stops a statement.
+//! What stops a statement, and what a row meets that is about to be written.
 
 use session_machine::{Request, StmtFault};
 
@@ -7,4 +7,11 @@ use session_machine::{Request, StmtFault};
 pub enum Stop<'t> {
     Blocked(Request),
     Fails(StmtFault<'t>),
+}
+
+/// What a row that is about to be written meets at a key that isn't free: the statement stops, or passes the row over.
+#[derive(Drop)]
+pub enum Meets<'t> {
+    Stops(Stop<'t>),
+    PassesOver,
 }

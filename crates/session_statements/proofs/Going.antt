@@ -4,7 +4,7 @@ use Rattle.std.specs.Prelude.{Option, Some, None, option_map, Result, Ok, Err}
 use Rattle.std.specs.Option.{option_map_or}
 use Rattle.std.proofs.lemmas.Option.{same_Some}
 use Rattle.sql_trees.specs.declared.stmt.Lock.{Lock}
-use Rattle.sql_trees.specs.Statements.{ColumnTree, StmtTree, InsertTree, UpdateTree, DeleteTree, SelectTree, Inserts, Updates, Deletes, Selects}
+use Rattle.sql_trees.specs.Statements.{ColumnTree, ItemTree, StmtTree, InsertTree, UpdateTree, DeleteTree, SelectTree, Inserts, Updates, Deletes, Selects}
 use Rattle.sql_values.specs.declared.value.Value.{Value}
 use Rattle.sql_values.specs.declared.fault.ValueFault.{ValueFault}
 use Rattle.row_versions.specs.declared.write.Seen.{Seen}
@@ -16,15 +16,21 @@ use Rattle.session_machine.specs.declared.session.Transaction.TheVariants.{Open}
 use Rattle.session_machine.specs.declared.session.Progress.{Progress}
 use Rattle.session_machine.specs.declared.session.Request.TheVariants.{Row}
 use Rattle.session_machine.specs.declared.fault.StmtFault.{StmtFault}
+use Rattle.session_machine.specs.declared.reply.Outcome.{Outcome}
 use Rattle.session_machine.specs.declared.reply.Outcome.TheVariants.{Rows}
+use Rattle.row_versions.specs.declared.write.Fate.{Fate}
+use Rattle.row_versions.specs.Log.{Content}
+use Rattle.session_machine.specs.Transactions.{started}
+use Rattle.session_statements.specs.declared.act.Halt.{Halt}
+use Rattle.session_statements.specs.Inner.Acting.{halted_walk}
 use Rattle.session_machine.specs.declared.fault.StmtFault.TheVariants.{NoTable, Value as OfValue}
-use Rattle.session_machine.specs.Tables.{Database, find_table}
+use Rattle.session_machine.specs.Tables.{Database, Catalog, find_table}
 use Rattle.session_machine.specs.Views.{rows_shown}
 use Rattle.session_machine.specs.Walks.{Walk}
 use Rattle.session_machine.specs.Statements.{Effect, Surroundings, answers, fails}
 use Rattle.session_machine.specs.Rows.{Work, columns_in, over_targets}
 use Rattle.session_machine.specs.Running.{at_once, begin_at, fault_in, leads_to, run_in}
-use Rattle.session_machine.specs.Inner.Statements.{walked_from, beginning, answered, insert_from, update_from, delete_from, lock_from, select, Visit, walked}
+use Rattle.session_machine.specs.Inner.Statements.{walked_from, answer, beginning, answered, insert_from, update_from, delete_from, lock_from, select, Visit, walked}
 use Rattle.session_machine.specs.Inner.Pieces.{table_columns}
 use Rattle.session_machine.proofs.ByKind.{runs_by_kind}
 use Rattle.session_statements.specs.Inner.Going.{go_from}
@@ -33,6 +39,21 @@ use Rattle.session_statements.specs.Inner.Going.{go_from}
 pub found_targets : (at : Database → Seen → Visit) (db : Database) (place : ℕ) (rows : List (List Value)) (r : Result (List Seen) ValueFault) (targets got : List Seen)
     → r ≡ Ok targets → got ≡ targets → walked_from at db place rows r ≡ walked at db place rows (drop place got)
 found_targets at db place rows r targets got is same = ap (walked_from at db place rows) is ∙ ap (λ (xs : List Seen). walked at db place rows (drop place xs)) (sym same)
+
+-- ---- one that ends
+
+-- no transaction has ended since, so a transaction is in the same way begun, and ends its command in the same way
+pub same_started : (before now : Content) (t : OpenTransaction) → before.fates ≡ now.fates → started before t ≡ started now t
+same_started before now t same = ap (λ (fates : List Fate). started (record now { fates = fates }) t) same
+
+pub same_answers : (before now : Content) (db : Database) (t : OpenTransaction) (outcome : Outcome) → before.fates ≡ now.fates → answers before db t outcome ≡ answers now db t outcome
+same_answers before now db t outcome same = ap (λ (fates : List Fate). answers (record now { fates = fates }) db t outcome) same
+
+-- the walk's database has the same columns
+pub same_end : (before : Content) (d e : Database) (w : Work) (items : Option (List ItemTree)) (rows : List (List Value)) (halt : Option Halt) → e.catalog ≡ d.catalog
+    → halted_walk before w (answer (columns_in e w) items) e rows halt ≡ halted_walk before w (answer (columns_in d w) items) e rows halt
+same_end before d e w items rows halt same =
+    ap (λ (catalog : Catalog). halted_walk before w (answer (columns_in (record d { catalog = catalog }) w) items) e rows halt) same
 
 -- ---- a statement that begins
 

@@ -5,7 +5,7 @@ use Rattle.std.specs.Option.{option_map_or}
 use Rattle.std.proofs.lemmas.Bool.{cases_eq, eqb-true}
 use Rattle.std.proofs.lemmas.List.{length-map}
 use Rattle.std.proofs.lemmas.Option.{slice_get_cases, slice_get_within, same_Some}
-use Rattle.sql_trees.specs.Statements.{UpdateTree, update_of}
+use Rattle.sql_trees.specs.Statements.{ItemTree, UpdateTree, update_of, delete_of, select_of}
 use Rattle.sql_trees.specs.declared.stmt.Level.{Level}
 use Rattle.sql_trees.specs.declared.stmt.Level.TheVariants.{ReadCommitted, RepeatableRead}
 use Rattle.sql_trees.specs.declared.stmt.Strength.{Strength}
@@ -27,7 +27,7 @@ use Rattle.row_versions.proofs.Gets.{get-append_left, get-append_last}
 use Rattle.row_locks.specs.declared.held.Held.{Held}
 use Rattle.row_locks.specs.Waiting.{Waiting}
 use Rattle.row_locks.specs.Cycles.{closes}
-use Rattle.query_results.specs.Queries.{AssignedColumn, null_in}
+use Rattle.query_results.specs.Queries.{AssignedColumn, null_in, row_values}
 use Rattle.query_results.specs.Updates.{updated}
 use Rattle.query_results.proofs.Placing.{length-updated}
 use Rattle.update_recheck.specs.Asked.{Asked}
@@ -38,9 +38,10 @@ use Rattle.session_machine.specs.Tables.{Database, Catalog, Table}
 use Rattle.session_machine.specs.Walks as walk
 use Rattle.session_machine.specs.Walks.{Walk}
 use Rattle.session_machine.specs.Waits.{waits_in}
-use Rattle.session_machine.specs.Rows.{Work, columns_in, cols_in, values_of, written}
-use Rattle.session_machine.specs.Inner.Statements.{keys_in, stop_at_keys, settled, at_outcome, at_target, Visit, goes_on, walked}
-use Rattle.session_machine.specs.Inner.Pieces.{unless_stopped, unless_null, unless_stopped_by, update_made, lock_made}
+use Rattle.session_machine.specs.Rows.{Work, Meets, PassesOver, columns_in, cols_in, values_of, written}
+use Rattle.session_machine.specs.Rows as meet
+use Rattle.session_machine.specs.Inner.Statements.{keys_in, meet_keys, put_update, settled, shows, at_outcome, at_target, Visit, goes_on, walked}
+use Rattle.session_machine.specs.Inner.Pieces.{unless_stopped, unless_null, unless_met, update_made, shown_made}
 use Rattle.session_machine.specs.Sound.{RowsFit, RowsStay}
 use Rattle.session_statements.specs.declared.act.Act.{Act}
 use Rattle.session_statements.specs.declared.act.Act.TheVariants.{Update, Delete, Lock}
@@ -242,30 +243,41 @@ unless_null_keeps : (name : List ℕ) (db : Database) (due : Visit) (o : Option 
 unless_null_keeps name db due (Some column) h k = kept_here db h
 unless_null_keeps name db due None h k = k
 
-unless_stopped_keeps : (db after : Database) (o : Option walk.Stop) → IsOrderly db → IsKept db after → IsKept db (unless_stopped_by db after o).db
-unless_stopped_keeps db after (Some stop) h k = kept_here db h
-unless_stopped_keeps db after None h k = k
+-- a row that isn't written leaves all as it is
+met_keeps : (db : Database) (due : Visit) (o : Option Meets) → IsOrderly db → IsKept db due.db → IsKept db (unless_met db due o).db
+met_keeps db due (Some (meet.Stops stop)) h k = kept_here db h
+met_keeps db due (Some PassesOver) h k = kept_here db h
+met_keeps db due None h k = k
+
+shown_keeps : (before db : Database) (r : Result (List Value) ValueFault) → IsKept before db → IsKept before (shown_made db r).db
+shown_keeps before db (Err fault) k = k
+shown_keeps before db (Ok row) k = k
+
+-- so does what is answered for a row
+shows_keeps : (w : Work) (items : Option (List ItemTree)) (before db : Database) (row : List Value) → IsKept before db → IsKept before (shows w items db row).db
+shows_keeps w None before db row k = k
+shows_keeps w (Some items) before db row k = shown_keeps before db (row_values (cols_in db w) items row) k
 
 update_keeps : (w : Work) (u : UpdateTree) (targets : List AssignedColumn) (db : Database) (seen : Seen) (r : Result (List Value) ValueFault)
-    → updated (cols_in db w) targets u.sets (values_of db seen) ≡ r → CanAct db w seen → IsKept db (update_made w u.table db seen.row r).db
+    → updated (cols_in db w) targets u.sets (values_of db seen) ≡ r → CanAct db w seen → IsKept db (update_made w (put_update u) db seen.row r).db
 update_keeps w u targets db seen (Err fault) e h = kept_here db h.1
 update_keeps w u targets db seen (Ok values) e h =
+    let after = written db w seen.row (Some values) in
     unless_null_keeps u.table db _ (null_in (columns_in db w) values) h.1
-    (unless_stopped_keeps db (written db w seen.row (Some values)) (stop_at_keys db w u.table values (Some seen.row) (keys_in db w)) h.1
+    (met_keeps db (shows w u.returning after values) (meet_keys db w (put_update u) values (Some seen.row) (keys_in db w)) h.1
+    (shows_keeps w u.returning db after values
     (kept_written db w seen.row (Some values) h.0 h.1 h.2.0
-    (λ vs is. ap length (sym (same_Some values vs is)) ∙ length-updated (cols_in db w) targets u.sets (values_of db seen) values e ∙ h.2.1)))
+    (λ vs is. ap length (sym (same_Some values vs is)) ∙ length-updated (cols_in db w) targets u.sets (values_of db seen) values e ∙ h.2.1))))
 
 none_some : {A : Type 0} (x : A) → None ≡ Some x → ⊥
 none_some x h = cc
 
-lock_keeps : (db : Database) (r : Result (List Value) ValueFault) → IsOrderly db → IsKept db (lock_made db r).db
-lock_keeps db (Err fault) h = kept_here db h
-lock_keeps db (Ok row) h = kept_here db h
-
 act_keeps : (w : Work) (act : Act) (db : Database) (seen : Seen) → CanAct db w seen → IsKept db (act_with w act db seen).db
 act_keeps w (Update u targets) db seen h = update_keeps w (update_of u.now) targets.now db seen _ refl h
-act_keeps w (Delete d) db seen h = kept_written db w seen.row None h.0 h.1 h.2.0 (λ vs is. absurd (none_some vs is))
-act_keeps w (Lock s l) db seen h = lock_keeps db _ h.1
+act_keeps w (Delete d) db seen h =
+    shows_keeps w (delete_of d.now).returning db (written db w seen.row None) (values_of db seen)
+    (kept_written db w seen.row None h.0 h.1 h.2.0 (λ vs is. absurd (none_some vs is)))
+act_keeps w (Lock s l) db seen h = shows_keeps w (Some (select_of s.now).items) db db (values_of db seen) (kept_here db h.1)
 
 -- more locks
 kept_held : (db : Database) (held : List Held) → IsOrderly db → IsKept db (record db { held = held })

@@ -1,17 +1,19 @@
 //! What is wrong with a statement over a table, before it looks at any row.
 
-ghost use Rattle.std.specs.Prelude.{◌≡◌, [], true, flat_map, length, map, nat_lt, Some, None, if◌then◌else◌, IfOk, OnErr};
+ghost use Rattle.std.specs.Prelude.{◌≡◌, [], true, flat_map, length, map, nat_lt, option_map, Some, None, if◌then◌else◌, IfOk, OnErr};
 ghost use Rattle.std.specs.List.{list_any};
 ghost use Rattle.std.specs.Option.{option_or};
-ghost use Rattle.sql_trees.specs.Statements.{column_of, delete_of, exprs_of, insert_of, select_of, stmt_of, update_of, Deletes, Inserts, Selects, Updates};
+ghost use Rattle.sql_trees.specs.Statements.{column_of, delete_of, exprs_of, insert_of, items_of, select_of, stmt_of, update_of, Deletes, Inserts, Selects, Updates};
+ghost use Rattle.query_results.specs.Queries.{cols_of, returned_exprs};
 ghost use Rattle.session_machine.specs.Running.{fault_in, undefined_in};
 ghost use Rattle.session_statements.specs.Inner.Going.{assigns};
 
 use iso_lexer::Ident;
 use session_machine::StmtFault;
 use session_queries::{
-    AssignedColumns, columns_assigned, columns_set, some_too_long, undefined_in_filter,
-    undefined_in_rows, undefined_in_select, undefined_in_update, wrong_position,
+    AssignedColumns, columns_assigned, columns_set, some_too_long, undefined_in_delete,
+    undefined_in_returning, undefined_in_rows, undefined_in_select, undefined_in_update,
+    wrong_position,
 };
 use sql_trees::{Column, Delete, Insert, Select, Stmt, Update};
 use sql_values::ValueFault;
@@ -24,12 +26,20 @@ fn no_column<'t>(name: Ident<'t>) -> StmtFault<'t>
     StmtFault::Value(ValueFault::NoColumn(name))
 }
 
-/// An INSERT's VALUES name a column, or one of their rows has more of them than there are columns to assign.
-fn fault_in_rows<'t>(to: &AssignedColumns, stmt: &Insert<'t>) -> Option<StmtFault<'t>>
+/// An INSERT's VALUES name a column, RETURNING one that isn't there, or a row of VALUES has more of them than there are columns to assign.
+fn fault_in_rows<'t>(
+    columns: &[Column<'_>],
+    to: &AssignedColumns,
+    stmt: &Insert<'t>,
+) -> Option<StmtFault<'t>>
     ensures { result ≡ option_or (undefined_in [] (flat_map (λ row. row) (map exprs_of stmt.now.rows.items)))
-        (if list_any (λ row. nat_lt (length to.now) (length row)) (map exprs_of stmt.now.rows.items) then Some StmtFault.TooManyValues else None) }
+        (option_or (undefined_in (cols_of (map column_of columns.now)) (returned_exprs (option_map items_of stmt.now.returning)))
+        (if list_any (λ row. nat_lt (length to.now) (length row)) (map exprs_of stmt.now.rows.items) then Some StmtFault.TooManyValues else None)) }
 {
     if let Some(name) = undefined_in_rows(stmt.rows.as_slice()) {
+        return Some(no_column(name));
+    }
+    if let Some(name) = undefined_in_returning(columns, &stmt.returning) {
         return Some(no_column(name));
     }
     if some_too_long(to.len(), stmt.rows.as_slice()) {
@@ -46,7 +56,7 @@ fn fault_in_insert<'t>(
     ensures { IfOk result (λ fault. fault ≡ fault_in (map column_of columns.now) (Inserts (insert_of stmt.now))) }
 {
     match columns_assigned(alloc, columns, stmt.columns.as_ref())? {
-        Ok(to) => Ok(fault_in_rows(&to, stmt)),
+        Ok(to) => Ok(fault_in_rows(columns, &to, stmt)),
         Err(column) => {
             let table = Ident::new(stmt.table);
             Ok(Some(StmtFault::NoColumnOf { column, table }))
@@ -74,7 +84,7 @@ fn fault_in_update<'t>(
 fn fault_in_delete<'t>(columns: &[Column<'_>], stmt: &Delete<'t>) -> Option<StmtFault<'t>>
     ensures { result ≡ fault_in (map column_of columns.now) (Deletes (delete_of stmt.now)) }
 {
-    match undefined_in_filter(columns, &stmt.filter) {
+    match undefined_in_delete(columns, stmt) {
         Some(name) => Some(no_column(name)),
         None => None,
     }

@@ -1,29 +1,32 @@
 //! INSERT (PostgreSQL manual, its page).
 
-ghost use Rattle.std.specs.Prelude.{◌≡◌, ◌≢◌, ◌<◌, [], List, Ok, drop, length, map, option_map, IfOk, OnOk, OnErr};
+ghost use Rattle.std.specs.Prelude.{◌≡◌, ◌≢◌, ◌<◌, List, Ok, drop, length, map, option_map, IfOk, OnOk, OnErr};
 ghost use Rattle.sql_trees.specs.Trees.{tree_of};
-ghost use Rattle.sql_trees.specs.Statements.{column_of, exprs_of, insert_of, name_of, names_of, Inserts};
+ghost use Rattle.sql_trees.specs.Statements.{column_of, exprs_of, insert_of, names_of, Inserts};
+ghost use Rattle.sql_values.specs.Values.{Answers};
 ghost use Rattle.sql_values.specs.declared.fault.ValueFault.TheVariants.{Memory};
 ghost use Rattle.sql_values.specs.declared.value.Value.{Value as SqlValue};
 ghost use Rattle.row_versions.specs.Log.{Content, IsOpen};
-ghost use Rattle.query_results.specs.Queries.{columns_assigned};
-ghost use Rattle.session_machine.specs.Inner.Statements.{insert_one, assigned_to, done, after_walk, walked};
+ghost use Rattle.query_results.specs.Queries.{columns_assigned, new_values};
+ghost use Rattle.session_machine.specs.declared.reply.Outcome.{Outcome as OutcomeFacts};
+ghost use Rattle.session_machine.specs.Rows.{columns_in};
+ghost use Rattle.session_machine.specs.Inner.Statements.{insert_one, assigned_to, after_walk, put_insert, walked};
 ghost use Rattle.session_machine.specs.Inner.Pieces.{insert_made};
-ghost use Rattle.session_database.specs.Stops.{stop_of};
-ghost use Rattle.session_statements.specs.Inner.Acting.{halted_walk};
+ghost use Rattle.session_statements.specs.Inner.Acting.{halted_walk, putting_of, visit_of};
 ghost use Rattle.session_statements.specs.Inner.Going.{go_from};
 ghost use Rattle.session_statements.specs.Inner.Keeping.{IsAtWork};
 ghost use Rattle.session_statements.specs.Inner.Left.{left};
 
-use crate::act::Halt;
-use crate::checks::stop_before_write;
+use crate::act::{Halt, Putting, Visited};
+use crate::checks::met_before_write;
 use crate::effect::Effect;
+use crate::returning::returned;
 use crate::targets::all_or_none;
-use crate::walk::halt;
+use crate::walk::end;
 use iso_lexer::Name;
 use row_versions::Versions;
 use session_database::{Database, Stop, Work};
-use session_machine::{StmtFault, Transaction};
+use session_machine::StmtFault;
 use session_queries::{AssignedColumns, columns_assigned, new_values};
 use sql_trees::{Column, Expr, Insert};
 use sql_values::{Row, ValueFault};
@@ -53,68 +56,88 @@ fn inserted_to<'t>(
     Ok(all_or_none(alloc, found))
 }
 
-/// A row with these values is written, or what stops the statement is answered.
+/// A new row has these values. What RETURNING answers for it is worked out before the store takes them; a fault in that
+/// still comes behind the write.
 fn insert_made<'a, 't, V: Versions>(
     db: &mut Database<'a, 't, V>,
     work: &Work<'_>,
-    name: Name<'t>,
+    put: &Putting<'_, 't>,
     values: Row,
-) -> Result<Option<Stop<'t>>, AllocError>
+) -> Result<Visited<'t>, AllocError>
     requires opened { IsOpen db.old.content work.now.t.tx }
     requires within { work.now.table < length db.old.catalog.tables }
-    ensures made { IfOk result (λ stop. insert_made work.now (name_of name.entry) db.old (Ok values) ≡ record { db = db.new; rows = []; stop = option_map stop_of stop }) }
+    requires even { length values ≡ length (columns_in db.old work.now) }
+    ensures made { IfOk result (λ v. insert_made work.now (putting_of put.now) db.old (Ok values) ≡ visit_of db.new v) }
     ensures fates { OnOk result (db.new.content.fates ≡ db.old.content.fates) }
     ensures catalog { OnOk result (db.new.catalog ≡ db.old.catalog) }
 {
-    if let Some(stop) = stop_before_write(db, work, name, &values, None)? {
-        return Ok(Some(stop));
+    if let Some(met) = met_before_write(db, work, put, &values, None)? {
+        return Ok(Visited::at_key(met));
     }
+    let answer = returned(db, work, put.returning, &values)?;
     db.add_row(work, values)?;
-    Ok(None)
+    Ok(answer)
 }
 
-/// One row is evaluated, assigned, checked and written, or what stops the statement is answered.
+/// A row of the VALUES, assigned to its columns.
+fn inserted<'a, 't, V: Versions>(
+    db: &Database<'a, 't, V>,
+    work: &Work<'_>,
+    to: &AssignedColumns,
+    row: &[Expr<'t>],
+) -> Result<Row, ValueFault<'t>>
+    requires within { work.now.table < length db.now.catalog.tables }
+    ensures values { Answers result (new_values (length (columns_in db.now work.now)) to.now (map tree_of row.now)) }
+    ensures even { IfOk result (λ values. length values ≡ length (columns_in db.now work.now)) }
+{
+    new_values(db.alloc(), db.columns_in(work).len(), to, row)
+}
+
+/// One row is evaluated, assigned, checked and written.
 fn insert_row<'a, 't, V: Versions>(
     db: &mut Database<'a, 't, V>,
     work: &Work<'_>,
     stmt: &Insert<'t>,
     to: &AssignedColumns,
     row: &[Expr<'t>],
-) -> Result<Option<Stop<'t>>, AllocError>
+) -> Result<Visited<'t>, AllocError>
     requires opened { IsOpen db.old.content work.now.t.tx }
     requires within { work.now.table < length db.old.catalog.tables }
-    ensures visit { IfOk result (λ stop.
-        insert_one work.now (name_of stmt.now.table) to.now db.old (map tree_of row.now) ≡ record { db = db.new; rows = []; stop = option_map stop_of stop }) }
+    ensures visit { IfOk result (λ v. insert_one work.now (put_insert (insert_of stmt.now)) to.now db.old (map tree_of row.now) ≡ visit_of db.new v) }
     ensures fates { OnOk result (db.new.content.fates ≡ db.old.content.fates) }
     ensures catalog { OnOk result (db.new.catalog ≡ db.old.catalog) }
 {
-    match new_values(db.alloc(), db.columns_in(work).len(), to, row) {
-        Ok(values) => insert_made(db, work, stmt.table, values),
+    match inserted(db, work, to, row) {
+        Ok(values) => insert_made(db, work, &Putting::of_insert(stmt), values),
         Err(fault) => {
             let fault = fault_of(fault)?;
-            Ok(Some(Stop::Fails(fault)))
+            Ok(Visited::Stops(Stop::Fails(fault)))
         }
     }
 }
 
-/// Writes one row of the VALUES after the other, from this place on, up to the one at which the statement stops.
+/// Writes one row of the VALUES after the other, from this place on, and appends what is answered for them.
 fn insert_rows<'a, 't, V: Versions>(
     db: &mut Database<'a, 't, V>,
     work: &Work<'_>,
     stmt: &'a Insert<'t>,
     to: &AssignedColumns,
     place: usize,
+    rows: &mut Vec<Row>,
 ) -> Result<Option<Halt<'t>>, AllocError>
     requires opened { IsOpen db.old.content work.now.t.tx }
     requires within { work.now.table < length db.old.catalog.tables }
-    ensures walk { (before : Content) (rows : List (List SqlValue)) → IfOk result (λ halt.
-        after_walk before work.now done (walked (insert_one work.now (name_of stmt.now.table) to.now) db.old place rows (drop place (map exprs_of stmt.now.rows.items)))
-        ≡ halted_walk before work.now done db.new rows halt) }
+    ensures walk { (before : Content) (outcome : List (List SqlValue) → OutcomeFacts) → IfOk result (λ halt.
+        after_walk before work.now outcome (walked (insert_one work.now (put_insert (insert_of stmt.now)) to.now) db.old place rows.old.items (drop place (map exprs_of stmt.now.rows.items)))
+        ≡ halted_walk before work.now outcome db.new rows.new.items halt) }
     ensures fates { OnOk result (db.new.content.fates ≡ db.old.content.fates) }
+    ensures catalog { OnOk result (db.new.catalog ≡ db.old.catalog) }
 {
     for at in place..stmt.rows.len() {
-        if let Some(stop) = insert_row(db, work, stmt, to, &stmt.rows[at])? {
-            return Ok(Some(Halt { place: at, stop }));
+        match insert_row(db, work, stmt, to, &stmt.rows[at])? {
+            Visited::Passes => {}
+            Visited::Shows(row) => rows.push(row)?,
+            Visited::Stops(stop) => return Ok(Some(Halt { place: at, stop })),
         }
     }
     Ok(None)
@@ -131,11 +154,8 @@ pub(crate) fn insert_from<'a, 't, V: Versions>(
     requires work { IsAtWork db.old work.now }
     ensures { IfOk result (λ did. go_from db.old work.now (Inserts (insert_of stmt.now)) place rows.items ≡ left db.new did) }
 {
-    let begun = db.started(&work.by);
-    let after = db.after_query(&work.by);
+    let mut answered = rows;
     let to = inserted_to(db.alloc(), db.columns_in(work), stmt.columns.as_ref())?;
-    match insert_rows(db, work, stmt, &to, place)? {
-        None => Ok(Effect::turned(Transaction::Open(after))),
-        Some(at) => Ok(halt(db, work, begun, at, rows)),
-    }
+    let halted = insert_rows(db, work, stmt, &to, place, &mut answered)?;
+    end(db, work, stmt.returning.as_ref(), halted, answered)
 }

@@ -9,6 +9,7 @@ mod effect;
 mod faults;
 mod insert;
 mod lock;
+mod returning;
 mod run;
 mod select;
 mod settle;

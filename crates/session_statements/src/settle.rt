@@ -1,7 +1,7 @@
 //! One target: settled, and then acted on.
 
 ghost use Rattle.std.specs.Prelude.{◌≡◌, ◌<◌, length, map, IfOk, OnOk};
-ghost use Rattle.sql_trees.specs.Statements.{column_of};
+ghost use Rattle.sql_trees.specs.Statements.{column_of, delete_of};
 ghost use Rattle.query_results.specs.Queries.{cols_of};
 ghost use Rattle.row_versions.specs.Log.{IsOpen};
 ghost use Rattle.update_recheck.specs.Asked.{Fits};
@@ -15,12 +15,13 @@ ghost use Rattle.session_statements.specs.Inner.Keeping.{CanTake, IsOrderly, Row
 
 use crate::act::{Act, Visited};
 use crate::lock::lock_with;
+use crate::returning::returned;
 use crate::update::{update_strength, update_with};
 use iso_lexer::Ident;
 use row_versions::{Seen, Versions};
 use session_database::{Database, Stop, Work};
 use session_machine::{Request, StmtFault};
-use sql_trees::{Column, Strength};
+use sql_trees::{Column, Delete, Strength};
 use sql_values::Columns;
 use std::alloc::AllocError;
 use update_recheck::laws::{outcomes_by_what_is_held, waits_matter_to_the_blocked};
@@ -138,17 +139,21 @@ pub(crate) fn visit<'a, 't, V: Versions>(
     at_outcome(db, work, act, seen, strength, settled)
 }
 
-/// DELETE (PostgreSQL manual, its page): the row is gone from here on.
+/// DELETE (PostgreSQL manual, its page): the row is gone from here on. RETURNING answers the version that was taken.
 fn delete_with<'a, 't, V: Versions>(
     db: &mut Database<'a, 't, V>,
     work: &Work<'_>,
+    stmt: &Delete<'t>,
     version: &Seen,
 ) -> Result<Visited<'t>, AllocError>
     requires opened { IsOpen db.old.content work.now.t.tx }
-    ensures { IfOk result (λ v. delete_with work.now db.old version.now ≡ visit_of db.new v) }
+    requires within { work.now.table < length db.old.catalog.tables }
+    requires even { length (values_of db.old version.now) ≡ length (columns_in db.old work.now) }
+    ensures { IfOk result (λ v. delete_with work.now (delete_of stmt.now) db.old version.now ≡ visit_of db.new v) }
 {
+    let answer = returned(db, work, &stmt.returning, db.row_of(version))?;
     db.write_row(work, version.row, None)?;
-    Ok(Visited::Passes)
+    Ok(answer)
 }
 
 /// What the statement does with the version that a target takes.
@@ -165,7 +170,7 @@ fn act_with<'a, 't, V: Versions>(
 {
     match act {
         Act::Update(stmt, to) => update_with(db, work, stmt, to, version),
-        Act::Delete(_) => delete_with(db, work, version),
+        Act::Delete(stmt) => delete_with(db, work, stmt, version),
         Act::Lock(stmt, _) => lock_with(db, work, stmt, version),
     }
 }

@@ -1,22 +1,23 @@
 //! UPDATE (PostgreSQL manual, its page).
 
 ghost use Rattle.std.specs.Prelude.{◌≡◌, ◌<◌, Ok, length, map, IfOk};
-ghost use Rattle.sql_trees.specs.Statements.{column_of, name_of, set_of, update_of, Updates};
+ghost use Rattle.sql_trees.specs.Statements.{column_of, set_of, update_of, Updates};
 ghost use Rattle.row_versions.specs.Log.{IsOpen};
 ghost use Rattle.query_results.specs.Updates.{columns_set, updated};
 ghost use Rattle.sql_values.specs.Values.{Answers};
 ghost use Rattle.session_machine.specs.Rows.{cols_in, columns_in, update_strength, values_of};
 ghost use Rattle.session_machine.specs.Inner.Statements.{update_with, assigned_to};
 ghost use Rattle.session_machine.specs.Inner.Pieces.{update_made};
-ghost use Rattle.session_statements.specs.Inner.Acting.{visit_of};
+ghost use Rattle.session_statements.specs.Inner.Acting.{putting_of, visit_of};
 ghost use Rattle.session_statements.specs.Inner.Going.{go_from};
 ghost use Rattle.session_statements.specs.Inner.Keeping.{IsAtWork, IsOrderly, RowIn};
 ghost use Rattle.session_statements.specs.Inner.Left.{left};
 
-use crate::act::{Act, Visited};
-use crate::checks::stop_before_write;
+use crate::act::{Act, Putting, Visited};
+use crate::checks::met_before_write;
 use crate::effect::Effect;
 use crate::insert::fault_of;
+use crate::returning::returned;
 use crate::targets::all_or_none;
 use crate::walk::go_over_passing;
 use iso_lexer::Name;
@@ -75,29 +76,33 @@ fn updated<'a, 't, V: Versions>(
 ) -> Result<Row, ValueFault<'t>>
     requires within { work.now.table < length db.now.catalog.tables }
     requires even { length (values_of db.now version.now) ≡ length (columns_in db.now work.now) }
-    ensures { Answers result (updated (cols_in db.now work.now) to.now (map set_of stmt.now.sets.items) (values_of db.now version.now)) }
+    ensures values { Answers result (updated (cols_in db.now work.now) to.now (map set_of stmt.now.sets.items) (values_of db.now version.now)) }
+    ensures even { IfOk result (λ values. length values ≡ length (columns_in db.now work.now)) }
 {
     let row = db.row_of(version);
     updated_values(db.alloc(), db.columns_in(work), to, &stmt.sets, row)
 }
 
-/// The row has the new values from here on.
+/// The row has the new values from here on. What RETURNING answers for it is worked out before the store takes them; a
+/// fault in that still comes behind the write.
 fn update_made<'a, 't, V: Versions>(
     db: &mut Database<'a, 't, V>,
     work: &Work<'_>,
-    name: Name<'t>,
+    put: &Putting<'_, 't>,
     version: &Seen,
     values: Row,
 ) -> Result<Visited<'t>, AllocError>
     requires opened { IsOpen db.old.content work.now.t.tx }
     requires within { work.now.table < length db.old.catalog.tables }
-    ensures { IfOk result (λ v. update_made work.now (name_of name.entry) db.old version.now.row (Ok values) ≡ visit_of db.new v) }
+    requires even { length values ≡ length (columns_in db.old work.now) }
+    ensures { IfOk result (λ v. update_made work.now (putting_of put.now) db.old version.now.row (Ok values) ≡ visit_of db.new v) }
 {
-    if let Some(stop) = stop_before_write(db, work, name, &values, Some(version.row))? {
-        return Ok(Visited::Stops(stop));
+    if let Some(met) = met_before_write(db, work, put, &values, Some(version.row))? {
+        return Ok(Visited::at_key(met));
     }
+    let answer = returned(db, work, put.returning, &values)?;
     db.write_row(work, version.row, Some(values))?;
-    Ok(Visited::Passes)
+    Ok(answer)
 }
 
 /// The version that a target takes is given its new values.
@@ -114,7 +119,7 @@ pub(crate) fn update_with<'a, 't, V: Versions>(
     ensures { IfOk result (λ v. update_with work.now (update_of stmt.now) to.now db.old version.now ≡ visit_of db.new v) }
 {
     match updated(db, work, stmt, to, version) {
-        Ok(values) => update_made(db, work, stmt.table, version, values),
+        Ok(values) => update_made(db, work, &Putting::of_update(stmt), version, values),
         Err(fault) => {
             let fault = fault_of(fault)?;
             Ok(Visited::Stops(Stop::Fails(fault)))

@@ -1,21 +1,24 @@
 //! How a statement goes from one of its targets to the next, up to the one at which it stops.
 
-ghost use Rattle.std.specs.Prelude.{◌≡◌, List, Some, drop, option_map, IfOk, OnOk};
+ghost use Rattle.std.specs.Prelude.{◌≡◌, ◌+◌, ◌<◌, ◌^◌, List, Some, drop, length, option_map, IfOk, OnOk};
 ghost use Rattle.sql_trees.specs.Trees.{tree_of};
+ghost use Rattle.sql_trees.specs.Statements.{items_of};
 ghost use Rattle.sql_values.specs.declared.value.Value.{Value as SqlValue};
 ghost use Rattle.row_versions.specs.Log.{Content, IsOpen};
 ghost use Rattle.session_machine.specs.declared.reply.Outcome.{Outcome as OutcomeFacts};
 ghost use Rattle.session_machine.specs.Transactions.{started};
 ghost use Rattle.session_machine.specs.Walks.{Blocked};
 ghost use Rattle.session_machine.specs.Tables.{Database as DatabaseFacts};
-ghost use Rattle.session_machine.specs.Inner.Statements.{walked_from, done, after_walk, pauses, walked};
+ghost use Rattle.session_machine.specs.Rows.{columns_in};
+ghost use Rattle.session_machine.specs.Inner.Statements.{walked_from, answer, after_walk, pauses, walked};
 ghost use Rattle.session_machine.specs.Targets.{passing_targets};
-ghost use Rattle.session_statements.specs.Inner.Acting.{halted_walk, visit_at};
+ghost use Rattle.session_statements.specs.Inner.Acting.{halted_walk, items_in, visit_at};
 ghost use Rattle.session_statements.specs.Inner.Keeping.{IsAtWork, IsKept, RowsIn};
 ghost use Rattle.session_statements.specs.Inner.Left.{left};
 
 use crate::act::{Act, Halt, Visited};
 use crate::effect::Effect;
+use crate::returning::answer;
 use crate::settle::visit;
 use crate::targets::passing_targets;
 use crate::transactions::{fail, fail_value};
@@ -24,7 +27,7 @@ use session_database::{Database, Stop, Work};
 use session_machine::{
     Gathered, OpenTransaction, Outcome, Progress, Request, Transaction, Waiting,
 };
-use sql_trees::Expr;
+use sql_trees::{Expr, Item};
 use sql_values::Row;
 use std::alloc::AllocError;
 
@@ -83,26 +86,52 @@ fn pause<'t>(
 }
 
 /// The statement waits where it halted, or fails.
-pub(crate) fn halt<'a, 't, V: Versions>(
+fn halt<'a, 't, V: Versions>(
     db: &mut Database<'a, 't, V>,
     work: &Work<'_>,
-    begun: OpenTransaction,
-    halt: Halt<'t>,
+    halted: Halt<'t>,
     rows: Vec<Row>,
 ) -> Effect<'t>
     requires opened { IsOpen db.old.content work.now.t.tx }
-    ensures { (before : Content) (outcome : List (List SqlValue) → OutcomeFacts) → begun ≡ started before work.now.t →
-        halted_walk before work.now outcome db.old rows.items (Some halt.entry) ≡ left db.new result }
+    ensures { (before : Content) (outcome : List (List SqlValue) → OutcomeFacts) → before.fates ≡ db.old.content.fates →
+        halted_walk before work.now outcome db.old rows.items (Some halted.entry) ≡ left db.new result }
 {
-    let Halt { place, stop } = halt;
+    let Halt { place, stop } = halted;
     match stop {
-        Stop::Blocked(request) => { pause(work, begun, place, request, rows) }
+        Stop::Blocked(request) => {
+            let begun = db.started(&work.by);
+            pause(work, begun, place, request, rows)
+        }
         Stop::Fails(fault) => fail(db, &work.by, fault),
     }
 }
 
-/// A statement without a result goes over these targets, from this place on.
-fn go_over<'a, 't, V: Versions>(
+/// A statement with these items has gone over its targets, or halted at one. No transaction has ended since it began.
+pub(crate) fn end<'a, 't, V: Versions>(
+    db: &mut Database<'a, 't, V>,
+    work: &Work<'_>,
+    items: Option<&Vec<Item<'t>>>,
+    halted: Option<Halt<'t>>,
+    rows: Vec<Row>,
+) -> Result<Effect<'t>, AllocError>
+    requires opened { IsOpen db.old.content work.now.t.tx }
+    requires room { work.now.t.command + 1 < 2 ^ 64 }
+    requires within { work.now.table < length db.old.catalog.tables }
+    ensures { (before : Content) → before.fates ≡ db.old.content.fates → IfOk result (λ did.
+        halted_walk before work.now (answer (columns_in db.old work.now) (option_map (λ is. items_of is.now) items.entry)) db.old rows.items halted.entry ≡ left db.new did) }
+{
+    match halted {
+        None => {
+            let after = db.after_query(&work.by);
+            let outcome = answer(db.alloc(), db.columns_in(work), items, rows)?;
+            Ok(Effect::of(Transaction::Open(after), outcome))
+        }
+        Some(at) => Ok(halt(db, work, at, rows)),
+    }
+}
+
+/// A statement goes over these targets, from this place on.
+pub(crate) fn go_over<'a, 't, V: Versions>(
     db: &mut Database<'a, 't, V>,
     work: &Work<'_>,
     act: &Act<'_, 'a, 't>,
@@ -113,18 +142,15 @@ fn go_over<'a, 't, V: Versions>(
     requires work { IsAtWork db.old work.now }
     requires its { RowsIn db.old.content work.now.table targets.now }
     ensures { IfOk result (λ did.
-        after_walk db.old.content work.now done (walked (visit_at work.now act.now) db.old place rows.items (drop place targets.now)) ≡ left db.new did) }
+        after_walk db.old.content work.now (answer (columns_in db.old work.now) (items_in act.now))
+        (walked (visit_at work.now act.now) db.old place rows.items (drop place targets.now)) ≡ left db.new did) }
 {
     let mut answered = rows;
-    let begun = db.started(&work.by);
-    let after = db.after_query(&work.by);
-    match walk(db, work, act, targets, place, &mut answered)? {
-        None => Ok(Effect::turned(Transaction::Open(after))),
-        Some(at) => Ok(halt(db, work, begun, at, answered)),
-    }
+    let halted = walk(db, work, act, targets, place, &mut answered)?;
+    end(db, work, act.items(), halted, answered)
 }
 
-/// A statement without a result goes over the targets that pass its WHERE, from this place on.
+/// A statement goes over the targets that pass its WHERE, from this place on.
 pub(crate) fn go_over_passing<'a, 't, V: Versions>(
     db: &mut Database<'a, 't, V>,
     work: &Work<'_>,
@@ -135,7 +161,8 @@ pub(crate) fn go_over_passing<'a, 't, V: Versions>(
 ) -> Result<Effect<'t>, AllocError>
     requires work { IsAtWork db.old work.now }
     ensures { IfOk result (λ did.
-        after_walk db.old.content work.now done (walked_from (visit_at work.now act.now) db.old place rows.items (passing_targets db.old work.now (option_map tree_of filter.now)))
+        after_walk db.old.content work.now (answer (columns_in db.old work.now) (items_in act.now))
+        (walked_from (visit_at work.now act.now) db.old place rows.items (passing_targets db.old work.now (option_map tree_of filter.now)))
         ≡ left db.new did) }
 {
     match passing_targets(db, work, filter) {

@@ -141,14 +141,17 @@ fn are(found: &[TxId], wanted: &[u64]) -> bool {
 #[derive(Clone, Copy)]
 enum Wanted {
     Free,
-    Taken(u32),
+    /// Of which key, and at which place the version stands that has it.
+    Taken(u32, u64),
     Held(u32, &'static [u64]),
 }
 
 fn is_found(check: &Check, wanted: Wanted) -> bool {
     match (check, wanted) {
         (Check::Free, Wanted::Free) => true,
-        (Check::Taken { key }, Wanted::Taken(wanted)) => *key == wanted,
+        (Check::Taken { key, by }, Wanted::Taken(wanted, place)) => {
+            *key == wanted && by.place == place
+        }
         (Check::Held { key, by }, Wanted::Held(wanted, who)) => *key == wanted && are(by, who),
         _ => false,
     }
@@ -157,7 +160,7 @@ fn is_found(check: &Check, wanted: Wanted) -> bool {
 /// Who asks, for which values, in place of which row, and what is found.
 type Case = (u64, Pair, Option<u64>, Wanted);
 
-const CASES: [Case; 25] = [
+const CASES: [Case; 26] = [
     (4, (Some(11), Some(110)), None, Wanted::Free),
     // Of an open transaction's row: as it was committed, as it is, as it was in between.
     (4, (Some(1), Some(11)), None, Wanted::Held(0, &[2])),
@@ -170,12 +173,14 @@ const CASES: [Case; 25] = [
     // An open transaction deleted it.
     (2, (Some(2), Some(11)), None, Wanted::Held(0, &[4])),
     // A committed row has it, or an own one.
-    (4, (Some(3), Some(11)), None, Wanted::Taken(0)),
-    (4, (Some(8), Some(11)), None, Wanted::Taken(0)),
-    (4, (Some(11), Some(80)), None, Wanted::Taken(1)),
-    (2, (Some(7), Some(11)), None, Wanted::Taken(0)),
+    (4, (Some(3), Some(11)), None, Wanted::Taken(0, 2)),
+    (4, (Some(8), Some(11)), None, Wanted::Taken(0, 12)),
+    (4, (Some(11), Some(80)), None, Wanted::Taken(1, 12)),
+    (2, (Some(7), Some(11)), None, Wanted::Taken(0, 9)),
+    // The row that was first given it has it still, in a newer version.
+    (2, (Some(11), Some(60)), None, Wanted::Taken(1, 9)),
     // The first key that isn't free decides.
-    (4, (Some(3), Some(10)), None, Wanted::Taken(0)),
+    (4, (Some(3), Some(10)), None, Wanted::Taken(0, 2)),
     (4, (Some(2), Some(10)), None, Wanted::Held(1, &[2])),
     // The row that is written itself doesn't count.
     (4, (Some(8), Some(80)), Some(12), Wanted::Free),
@@ -198,7 +203,7 @@ const WIDE: [Case; 5] = [
     (4, (Some(1), Some(20)), None, Wanted::Free),
     (4, (Some(1), Some(80)), None, Wanted::Free),
     (4, (Some(3), None), None, Wanted::Free),
-    (4, (Some(8), Some(80)), None, Wanted::Taken(0)),
+    (4, (Some(8), Some(80)), None, Wanted::Taken(0, 12)),
 ];
 
 fn finds(
@@ -281,7 +286,7 @@ fn one_is(
     let found = index.find(store, TABLE, &[0], asked.values(), TxId(tx), None)?;
     Ok(match (&found, wanted) {
         (Found::Free, Wanted::Free) => true,
-        (Found::Taken, Wanted::Taken(_)) => true,
+        (Found::Taken(by), Wanted::Taken(_, place)) => by.place == place,
         (Found::Held(by), Wanted::Held(_, who)) => are(by, who),
         _ => false,
     })
@@ -302,7 +307,7 @@ fn one_key_is_found(alloc: Global) -> Result<bool, AllocError> {
     let (store, index) = written(alloc)?;
     Ok(
         one_is(alloc, &store, &index, 4, 11, Wanted::Free)?
-            && one_is(alloc, &store, &index, 4, 3, Wanted::Taken(0))?
+            && one_is(alloc, &store, &index, 4, 3, Wanted::Taken(0, 2))?
             && one_is(alloc, &store, &index, 4, 5, Wanted::Held(0, &[2, 3]))?
             // An own row has it, and another open transaction's too.
             && one_is(alloc, &store, &index, 2, 5, Wanted::Held(0, &[3]))?,

@@ -262,7 +262,7 @@ fn all_hold(alloc: Global, size: u32) -> Result<bool, AllocError> {
     Ok(
         match index.find(&store, TABLE, &[0], asked.values(), asks, None)? {
             Found::Free => size == 0,
-            Found::Taken => false,
+            Found::Taken(_) => false,
             Found::Held(by) => by.len() == size as usize,
         },
     )

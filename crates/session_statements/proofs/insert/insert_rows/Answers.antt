@@ -1,32 +1,33 @@
-use Rattle.std.proofs.Common.{rules, ◌∙◌, sym, ap, [], List, map}
-use Rattle.std.specs.Prelude.{Option, option_map}
+use Rattle.std.proofs.Common.{rules, ◌∙◌, sym, ap, List, Vec, map}
+use Rattle.std.specs.Global.{Global}
 use Rattle.sql_trees.specs.Trees.{tree_of}
 use Rattle.sql_trees.specs.declared.expr.Expr.{Expr}
-use Rattle.sql_trees.specs.Statements.{exprs_of, name_of}
-use Rattle.session_machine.specs.Inner.Statements.{insert_one, done, after_walk, Visit}
-use Rattle.session_database.specs.declared.stop.Stop.{Stop}
-use Rattle.session_database.specs.Stops.{stop_of}
-use Rattle.session_statements.proofs.Inserting.{row_passes, row_stops}
+use Rattle.sql_trees.specs.Statements.{exprs_of, insert_of}
+use Rattle.sql_values.specs.declared.row.Row.{Row}
+use Rattle.session_machine.specs.Inner.Statements.{insert_one, after_walk, put_insert}
+use Rattle.session_statements.proofs.Inserting.{row_passes, row_shows, row_stops}
+use Rattle.session_statements.proofs.insert.insert_rows.Goals.{in-Passes, in-Shows+in_ok-push-in-Shows}
 use Rattle.session_statements.proofs.insert.insert_rows.Goals as goal
 
-pub returns-in-Some-clause-walk : goal.returns-in-Some-clause-walk
-returns-in-Some-clause-walk g c before rows =
-    let visit = insert_one c.args.work.now (name_of c.args.stmt.now.table) c.args.to.now in
-    let after : Option Stop → Visit = λ stop. record { db = c.insert_row.new.db; rows = []; stop = option_map stop_of stop } in
-    ap (after_walk before c.args.work.now done) (sym (c.loop-at.invariant.rest rows)
-    ∙ row_stops exprs_of visit c.loop-at.db c.insert_row.new.db c.args.stmt.now.rows.items c.loop-at.at c.index.result.now (stop_of c.in-Some.stop) rows
-    (search rules) c.index.ensures
-    (ap (λ (es : List Expr). visit c.loop-at.db (map tree_of es)) (sym c.deref.ensures.value) ∙ c.in_ok-stop.ensures.visit ∙ ap after c.in-Some.is))
+pub returns-in-Stops-clause-walk : goal.returns-in-Stops-clause-walk
+returns-in-Stops-clause-walk g c before outcome =
+    let visit = insert_one c.args.work.now (put_insert (insert_of c.args.stmt.now)) c.args.to.now in
+    let same = ap (λ (es : List Expr). visit c.loop-at.db (map tree_of es)) (sym c.deref.ensures.value) ∙ c.in_ok-insert_row.ensures.visit in
+    ap (after_walk before c.args.work.now outcome) (sym c.loop-at.invariant.rest
+    ∙ row_stops exprs_of visit c.loop-at.db c.insert_row.new.db c.args.stmt.now.rows.items c.loop-at.at c.index.result.now c.loop-at.rows.items _ c.in-Stops.stop
+    (search rules) c.index.ensures same c.in-Stops.is)
 
 pub loop-at-preserved : goal.loop-at-preserved
 loop-at-preserved g c =
-    let visit = insert_one c.args.work.now (name_of c.args.stmt.now.table) c.args.to.now in
-    let after : Option Stop → Visit = λ stop. record { db = c.insert_row.new.db; rows = []; stop = option_map stop_of stop } in
+    let visit = insert_one c.args.work.now (put_insert (insert_of c.args.stmt.now)) c.args.to.now in
+    let same = ap (λ (es : List Expr). visit c.loop-at.db (map tree_of es)) (sym c.deref.ensures.value) ∙ c.in_ok-insert_row.ensures.visit in
     record {
-      rest = λ rows. row_passes exprs_of visit c.loop-at.db c.insert_row.new.db c.args.stmt.now.rows.items c.loop-at.at c.index.result.now rows
-          (search rules) c.index.ensures
-          (ap (λ (es : List Expr). visit c.loop-at.db (map tree_of es)) (sym c.deref.ensures.value) ∙ c.in_ok-stop.ensures.visit ∙ ap after c.in_default.is)
-          ∙ c.loop-at.invariant.rest rows;
-      fates = c.in_ok-stop.ensures.fates ∙ c.loop-at.invariant.fates;
-      catalog = c.in_ok-stop.ensures.catalog ∙ c.loop-at.invariant.catalog;
+      rest = (elim c.match-branch-2.branch [
+        | in-Passes w ↦ row_passes exprs_of visit c.loop-at.db c.insert_row.new.db c.args.stmt.now.rows.items c.loop-at.at c.index.result.now c.loop-at.rows.items c.match-branch-2.rows.items _
+            (search rules) c.index.ensures same w.in-Passes.is (sym (ap (λ (v : Vec Row Global). v.items) w.rows-is))
+        | in-Shows+in_ok-push-in-Shows w ↦ row_shows exprs_of visit c.loop-at.db c.insert_row.new.db c.args.stmt.now.rows.items c.loop-at.at c.index.result.now c.loop-at.rows.items c.match-branch-2.rows.items _ _
+            (search rules) c.index.ensures same w.in-Shows.is (ap (λ (v : Vec Row Global). v.items) w.rows-is ∙ w.in_ok-push-in-Shows.ensures.items)
+      ]) ∙ c.loop-at.invariant.rest;
+      fates = c.in_ok-insert_row.ensures.fates ∙ c.loop-at.invariant.fates;
+      catalog = c.in_ok-insert_row.ensures.catalog ∙ c.loop-at.invariant.catalog;
     }

@@ -5,7 +5,7 @@ use Rattle.query_results.specs.Queries.{AssignedColumn}
 use Rattle.query_results.specs.Updates.{columns_set}
 use Rattle.session_machine.specs.Rows.{columns_in}
 use Rattle.session_machine.specs.Statements.{Effect}
-use Rattle.session_machine.specs.Inner.Statements.{update_one, assigned_to, done, after_walk, walked_from}
+use Rattle.session_machine.specs.Inner.Statements.{update_one, answer, assigned_to, after_walk, walked_from}
 use Rattle.session_machine.specs.Targets.{passing_targets}
 use Rattle.session_statements.specs.Inner.Left.{left}
 use Rattle.session_statements.proofs.Going.{updates_on}
@@ -22,4 +22,4 @@ returns g c =
     ∙ ap (λ xs. assigned_to (columns_set (columns_in db w) (map set_of xs))) c.deref.ensures.value in
     subst (λ (x : Effect). IfOk c.go_over_passing.result (λ did. x ≡ left c.go_over_passing.new.db did)) (sym (updates_on db w c.args.place c.args.rows.items u))
     (subst (λ (x : List AssignedColumn). IfOk c.go_over_passing.result (λ did.
-    after_walk db.content w done (walked_from (update_one w u x) db c.args.place c.args.rows.items (passing_targets db w u.filter)) ≡ left c.go_over_passing.new.db did)) same c.go_over_passing.ensures)
+    after_walk db.content w (answer (columns_in db w) u.returning) (walked_from (update_one w u x) db c.args.place c.args.rows.items (passing_targets db w u.filter)) ≡ left c.go_over_passing.new.db did)) same c.go_over_passing.ensures)

@@ -7,4 +7,4 @@ pub invariant_of-self : goal.invariant_of-self
 invariant_of-self g c =
     let content : Content = g.V.Versions.content c.self.inside.store in
     let is_open : IsOpen content c.args.tx = rw (ap (λ (d : Database). d.content) c.self.view_is) c.requires in
-    rw (c.forget.ensures, c.roll_back.ensures) ((c.index_keeps_up.ensures.goes_on.1 c.self.inside.keys content c.self.invariant.0).rolls_back c.args.tx is_open, c.self.invariant.1)
+    rw (c.forget.ensures, c.roll_back.ensures) ((c.index_keeps_up.ensures.goes_on.1 c.self.inside.keys content c.self.invariant.0).rolls_back c.args.tx is_open, c.self.invariant.1, c.self.invariant.2)
