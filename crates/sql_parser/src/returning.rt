@@ -21,7 +21,6 @@ pub struct ReturnedList<'a> {
 }
 
 // The tokens behind a DO, which has to stand next; a `(`, which begins a conflict's target, is left out.
-#[tactic(auto, unfolding(crate::specs::Inner::Changes::do_at))]
 fn behind_do<'t, 'a>(parser: Parser, tokens: Tokens<'t, 'a>) -> Result<Tokens<'t, 'a>, SqlFault>
     ensures { Gives (λ rest. tok_views rest.now) result (do_at parser.text_len (tok_views tokens.now)) }
 {
@@ -32,7 +31,6 @@ fn behind_do<'t, 'a>(parser: Parser, tokens: Tokens<'t, 'a>) -> Result<Tokens<'t
 }
 
 // The tokens behind a NOTHING, which has to stand next; UPDATE is left out.
-#[tactic(auto, unfolding(crate::specs::Inner::Changes::nothing_at))]
 fn behind_nothing<'t, 'a>(
     parser: Parser,
     tokens: Tokens<'t, 'a>,

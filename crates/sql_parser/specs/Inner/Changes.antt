@@ -1,4 +1,4 @@
--- INSERT and UPDATE as the code reads them.
+-- INSERT, UPDATE and DELETE as the code reads them.
 use Rattle.std.specs.Prelude.{ℕ, List, [], ◌∷◌, ◌++◌, length, Option, Some, None, option_map, Result, Ok, Err, if◌then◌else◌}
 use Rattle.iso_lexer.specs.declared.sql_token.SqlSign.TheVariants as signs
 use Rattle.sql_trees.specs.declared.fault.SqlFault.TheVariants.{Syntax}
@@ -30,11 +30,11 @@ module _ (last : ℕ) where
   columns_at = either (is_sign signs.Open) (closed last (λ ns. Some ns) (items_at distinct_add [])) (gives None)
 
   -- a DO, where a `(` is left out
-  unfoldable pub do_at : Tokens → Result Tokens SqlFault
+  abbrev pub do_at : Tokens → Result Tokens SqlFault
   do_at = keyword_not last (is_sign signs.Open) words.Do
 
   -- a NOTHING, where UPDATE is left out
-  unfoldable pub nothing_at : Tokens → Result Tokens SqlFault
+  abbrev pub nothing_at : Tokens → Result Tokens SqlFault
   nothing_at = keyword_not last (is_word words.Update) words.Nothing
 
   -- RETURNING and its items, if any
