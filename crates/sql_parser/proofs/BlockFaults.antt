@@ -21,7 +21,7 @@ use Rattle.sql_blocks.specs.declared.block.Role.{Role}
 use Rattle.sql_blocks.specs.Kept.{is_kept_in}
 use Rattle.sql_parser.specs.Inner.Blocks.{whole_at, piece_at, stmts_at}
 use Rattle.sql_parser.specs.Grammar.{Is, RowIs, is_row, Spells, PieceIs, no_stmt, a_stmt, BlockIs, last_piece, next_piece, EndedAre, no_pieces, ended_piece, Shallow, OfAnyDepth}
-use Rattle.sql_parser.specs.Stops.{Refuses, at_next, at_word, at_name, at_row, in_expression, too_deep, WantsWords, IsStop}
+use Rattle.sql_parser.specs.Stops.{Refuses, at_next, at_word, at_conflict, at_name, at_row, in_expression, too_deep, WantsWords, IsStop}
 use Rattle.sql_parser.specs.Laws.{BeginsStatement, Excepted, Stops, BlockStops, at_block_token, in_a_statement, BlockFaultsAreFirst, at_token, elsewhere}
 use Rattle.sql_parser.proofs.Steps.{bind_ok, when_ok}
 use Rattle.sql_parser.proofs.ExprLocals.{some_of_any_depth, of_any_depth_starts, any_depth_local, one_name}
@@ -102,6 +102,7 @@ module _ (last : ℕ) (behind : Tokens) (first_behind : (c : At Token) (us : Tok
   stands_on : (front rest : Tokens) (f : SqlFault) → Refuses (place_of last behind) OfAnyDepth W BeginsStatement front rest f → Refuses last OfAnyDepth V BeginsStatement front (rest ++ behind) f
   stands_on _ _ _ (at_next front rest) = subst (Refuses last OfAnyDepth V BeginsStatement front (rest ++ behind)) (of_next rest behind refl) (at_next front (rest ++ behind))
   stands_on _ _ _ (at_word front rest t w h) = at_word front (rest ++ behind) t (up w) h
+  stands_on _ _ _ (at_conflict front rest b t h) = at_conflict front (rest ++ behind) b t h
   stands_on _ _ _ (at_name front rest t n h g) = at_name front (rest ++ behind) t n h g
   stands_on _ _ _ (at_row before row rest es r) = subst (λ q. Refuses last OfAnyDepth V BeginsStatement (before ++ row) (rest ++ behind) (Syntax q)) (of_row row es r) (at_row before row (rest ++ behind) es r)
   stands_on _ _ _ (in_expression before here rest f r) = of_refuses before here rest f r

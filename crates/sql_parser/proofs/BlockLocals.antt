@@ -23,8 +23,7 @@ use Rattle.sql_parser.specs.Inner.Transactions.{begin_at, start_at, set_at}
 use Rattle.sql_parser.specs.Tables.{TableRead, created, drop_at}
 use Rattle.sql_parser.specs.Grammar.{empty_table, is_ddl, Is, Key, Names, nothing, Commas, AddsPart, Spells, commit, end, rollback, abort, create}
 use Rattle.sql_parser.specs.Inner.Tables.{table_add, keys_fault, finished, create_at}
-use Rattle.sql_parser.specs.Inner.Changes.{insert_at, update_at}
-use Rattle.sql_parser.specs.Changes.{delete_at}
+use Rattle.sql_parser.specs.Inner.Changes.{insert_at, update_at, delete_at}
 use Rattle.sql_parser.specs.Inner.Queries.{select_at}
 use Rattle.sql_parser.specs.Inner.Blocks.{simple_of, stmt_at, whole_at}
 use Rattle.sql_parser.specs.Inner.Pieces.{begun_at}

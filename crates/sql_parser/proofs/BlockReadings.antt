@@ -24,7 +24,7 @@ use Rattle.sql_parser.specs.Inner.Tables as tables
 use Rattle.sql_parser.specs.Inner.Queries as queries
 use Rattle.sql_parser.specs.Inner.Blocks as blocks
 use Rattle.sql_parser.proofs.Readings.{begin_same, start_same, set_same}
-use Rattle.sql_parser.proofs.StmtReadings.{insert_same, update_same}
+use Rattle.sql_parser.proofs.StmtReadings.{insert_same, update_same, delete_same}
 use Rattle.sql_parser.proofs.TableReadings.{ended, stated, create_same}
 use Rattle.sql_parser.proofs.QueryReadings.{select_same}
 
@@ -88,7 +88,7 @@ module _ (last : ℕ) where
   begun_same t ts (tok.word words.Drop s) h = rw h (simple_same _ _ refl)
   begun_same t ts (tok.word words.Insert s) h = rw h (simple_same _ _ (insert_same last ts))
   begun_same t ts (tok.word words.Update s) h = rw h (simple_same _ _ (update_same last ts))
-  begun_same t ts (tok.word words.Delete s) h = rw h (simple_same _ _ refl)
+  begun_same t ts (tok.word words.Delete s) h = rw h (simple_same _ _ (delete_same last ts))
   begun_same t ts (tok.word words.Create s) h = rw h (ended_same _ (tables.create_at last ts) (create_same last ts))
   begun_same t ts (tok.word words.Select s) h = rw h (ended_same _ (queries.select_at last t.span.start ts) (select_same last t.span.start ts))
   begun_same t ts _ h = rw h refl

@@ -17,7 +17,7 @@ use Rattle.sql_expressions.specs.Results.{◌>>=◌}
 use Rattle.sql_expressions.specs.Readers.{is_sign, misplaced}
 use Rattle.sql_blocks.specs.declared.block.Role.{Role}
 use Rattle.sql_blocks.specs.Parts.{is_session, set_columns, is_allowed}
-use Rattle.sql_blocks.specs.Kept.{is_shallow, maybe_shallow, item_shallow, all_differ, columns_differ, rows_fit, is_kept, makes_or_drops, is_kept_in}
+use Rattle.sql_blocks.specs.Kept.{is_shallow, maybe_shallow, item_shallow, all_differ, columns_differ, rows_fit, returning_kept, is_kept, makes_or_drops, is_kept_in}
 use Rattle.sql_parser.specs.Grammar.{is_ddl, Is, Spells, begin, start, commit, end, rollback, abort, set_transaction, set_timeout, create, drop, drop_if, insert, update, delete, select, PieceIs, no_stmt, a_stmt, BlockIs, last_piece, next_piece, Shallow}
 use Rattle.sql_parser.specs.Inner.Blocks.{simple_of, begun_of, stmt_at, at_end, whole_at, piece_at, stmts_at, block_at}
 use Rattle.sql_parser.specs.Inner.Pieces.{begun_at}
@@ -149,18 +149,21 @@ module _ (last : ℕ) where
   whole_reads role _ _ (drop_if d t i e ts ns hd ht hi he q) k =
       let w = word_is words.Drop d.tok hd in
       whole_one role d (t ∷ i ∷ e ∷ ts) _ (rw w.1 (role_of role (DropTables (record { if_exists = true; names = ns })) k).1) (begun_simple d (t ∷ i ∷ e ∷ ts) _ (tok.word words.Drop w.0) w.1 (rw (w.1, drop_if_reads last t i e ts ns ht hi he q) refl))
-  whole_reads role _ _ (insert i o n v name cs ts columns rows hi ho hn q hv r) k =
+  whole_reads role _ _ (insert i o n v name cs ts ds vs columns rows b t hi ho hn q hv r d m) k =
       let w = word_is words.Insert i.tok hi in
-      let a = and_parts (columns_differ columns) (rows_fit (option_map length columns) rows.rows && list_all (list_all is_shallow) rows.rows) (role_of role (Inserts (record { table = name; columns = columns; rows = rows.rows })) k).0 in
-      let b = and_parts (rows_fit (option_map length columns) rows.rows) (list_all (list_all is_shallow) rows.rows) a.1 in
-      whole_one role i (o ∷ n ∷ (cs ++ v ∷ ts)) _ (not_ddl role (is_ddl i.tok) (rw w.1 refl)) (begun_simple i (o ∷ n ∷ (cs ++ v ∷ ts)) _ (tok.word words.Insert w.0) w.1 (rw (w.1, insert_reads last o n v name cs ts columns rows ho hn q hv r a.0 b.0) refl))
-  whole_reads role _ _ (update u n s name ts ws sets f hu hn hs q x) k =
+      let behind = o ∷ n ∷ (cs ++ v ∷ (ts ++ (ds ++ vs))) in
+      let a = and_parts (columns_differ columns) (rows_fit (option_map length columns) rows.rows && (list_all (list_all is_shallow) rows.rows && returning_kept t)) (role_of role (Inserts (record { table = name; columns = columns; rows = rows.rows; do_nothing = b; returning = t })) k).0 in
+      let c = and_parts (rows_fit (option_map length columns) rows.rows) (list_all (list_all is_shallow) rows.rows && returning_kept t) a.1 in
+      whole_one role i behind _ (not_ddl role (is_ddl i.tok) (rw w.1 refl)) (begun_simple i behind _ (tok.word words.Insert w.0) w.1 (rw (w.1, insert_reads last o n v name cs ts ds vs columns rows b t ho hn q hv r d m a.0 c.0) refl))
+  whole_reads role _ _ (update u n s name ts ws vs sets f t hu hn hs q x m) k =
       let w = word_is words.Update u.tok hu in
-      let a = and_parts (all_differ (set_columns sets)) (list_all (λ (y : SetTree). is_shallow y.value) sets && maybe_shallow f) (role_of role (Updates (record { table = name; sets = sets; filter = f })) k).0 in
-      whole_one role u (n ∷ s ∷ (ts ++ ws)) _ (not_ddl role (is_ddl u.tok) (rw w.1 refl)) (begun_simple u (n ∷ s ∷ (ts ++ ws)) _ (tok.word words.Update w.0) w.1 (rw (w.1, update_reads last n s name ts ws sets f hn hs q x a.0) refl))
-  whole_reads role _ _ (delete d f n name ws filter hd hf hn x) k =
+      let behind = n ∷ s ∷ (ts ++ (ws ++ vs)) in
+      let a = and_parts (all_differ (set_columns sets)) (list_all (λ (y : SetTree). is_shallow y.value) sets && (maybe_shallow f && returning_kept t)) (role_of role (Updates (record { table = name; sets = sets; filter = f; returning = t })) k).0 in
+      whole_one role u behind _ (not_ddl role (is_ddl u.tok) (rw w.1 refl)) (begun_simple u behind _ (tok.word words.Update w.0) w.1 (rw (w.1, update_reads last n s name ts ws vs sets f t hn hs q x m a.0) refl))
+  whole_reads role _ _ (delete d f n name ws vs filter t hd hf hn x m) k =
       let w = word_is words.Delete d.tok hd in
-      whole_one role d (f ∷ n ∷ ws) _ (not_ddl role (is_ddl d.tok) (rw w.1 refl)) (begun_simple d (f ∷ n ∷ ws) _ (tok.word words.Delete w.0) w.1 (rw (w.1, delete_reads last f n name ws filter hf hn x) refl))
+      let behind = f ∷ n ∷ (ws ++ vs) in
+      whole_one role d behind _ (not_ddl role (is_ddl d.tok) (rw w.1 refl)) (begun_simple d behind _ (tok.word words.Delete w.0) w.1 (rw (w.1, delete_reads last f n name ws vs filter t hf hn x m) refl))
   whole_reads role _ _ (select s is fs ws os ls i t f o l hs a b c d e) k =
       let w = word_is words.Select s.tok hs in
       let allowed : is_allowed (record { items = i; table = t; filter = f; order = o; lock = l }) ≡ true = (and_parts (is_allowed (record { items = i; table = t; filter = f; order = o; lock = l })) (list_all item_shallow i && (maybe_shallow f && list_all (λ (y : OrderTree). is_shallow y.expr) o)) (role_of role (Selects (record { items = i; table = t; filter = f; order = o; lock = l })) k).0).0 in

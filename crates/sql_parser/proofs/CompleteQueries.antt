@@ -14,21 +14,23 @@ use Rattle.sql_trees.specs.declared.stmt.Strength.{Strength}
 use Rattle.sql_trees.specs.declared.stmt.Policy.{Policy}
 use Rattle.sql_trees.specs.Words.{is_reserved}
 use Rattle.sql_trees.specs.Statements.{ItemTree, OrderTree, SelectTree, Selects, All, Value, Aggregate}
-use Rattle.sql_trees.specs.Tokens.{Token, Tokens, named}
+use Rattle.sql_trees.specs.Tokens.{Token, Tokens}
 use Rattle.sql_trees.specs.Tokens as tok
 use Rattle.sql_trees.specs.Trees.{Tree, AggTree}
-use Rattle.sql_expressions.specs.Readers.{misplaced, is_word, is_sign, after, added}
+use Rattle.sql_expressions.specs.Readers.{is_word, is_sign, after, added}
 use Rattle.sql_expressions.specs.Reading.{Part, agg_kind, expr_at}
 use Rattle.sql_expressions.specs.Inner.Pieces.{chain, or_at, and_at, is_at, cmp_at, inn_at, cat_at, add_at, mul_at}
-use Rattle.sql_expressions.specs.Grammar.{Ends, may_go_on}
+use Rattle.sql_expressions.specs.Grammar.{Ends}
 use Rattle.sql_expressions.proofs.Complete.{expr_complete}
 use Rattle.sql_expressions.proofs.Same.{is_fault, expr_same}
 use Rattle.sql_blocks.specs.Parts.{is_allowed}
-use Rattle.sql_parser.specs.Inner.Queries.{call_at, counts_rows, maybe_name, direction_at, agg_at, item_at, from_at, nulls_at, order_add, order_at, strength_at, lock_at, select_at}
-use Rattle.sql_parser.specs.Queries.{alias_at, policy_at}
-use Rattle.sql_parser.specs.Grammar.{Is, Commas, AliasIs, no_alias, as_alias, bare_alias, AggIs, all_rows, of_values, AddsItem, a_star, a_value, an_aggregate, FromIs, no_table, from_table, DirectionIs, as_ever, ascending, descending, NullsAre, unsaid, nulls_first, nulls_last, AddsKey, adds_key, OrderIs, unordered, ordered, StrengthIs, for_update, for_no_key_update, for_share, for_key_share, PolicyIs, wait, no_wait, skip_locked, LockIs, no_lock, locks, WhereIs, unfiltered, filtered, Shallow}
+use Rattle.sql_parser.specs.Inner.Queries.{call_at, counts_rows, direction_at, agg_at, item_at, from_at, nulls_at, order_add, order_at, strength_at, lock_at, select_at}
+use Rattle.sql_parser.specs.Changes.{alias_at}
+use Rattle.sql_parser.specs.Queries.{policy_at}
+use Rattle.sql_parser.specs.Grammar.{Is, Commas, AggIs, all_rows, of_values, AddsItem, a_star, a_value, an_aggregate, FromIs, no_table, from_table, DirectionIs, as_ever, ascending, descending, NullsAre, unsaid, nulls_first, nulls_last, AddsKey, adds_key, OrderIs, unordered, ordered, StrengthIs, for_update, for_no_key_update, for_share, for_key_share, PolicyIs, wait, no_wait, skip_locked, LockIs, no_lock, locks, WhereIs, unfiltered, filtered, Shallow}
 use Rattle.sql_parser.proofs.StmtLocals.{word_is}
-use Rattle.sql_parser.proofs.Completes.{other_word, not_key, ends_part, Parted, part_ends, no_name_next, no_part_word, comma_is_parted, close_ends, tree_reads, list_reads}
+use Rattle.sql_parser.proofs.Completes.{other_word, not_key, ends_part, Parted, part_ends, no_part_word, comma_is_parted, close_ends, tree_reads, list_reads}
+use Rattle.sql_parser.proofs.CompleteReturning.{no_star, alias_reads, alias_ends}
 use Rattle.sql_parser.proofs.CompleteStmts.{where_reads}
 use Rattle.sql_parser.proofs.QueryLocals.{call_of}
 
@@ -38,11 +40,6 @@ no_both : {A : Type 0} (x : A) (e : SqlFault) → ◌≡◌ {A = Result A SqlFau
 no_both x e h = cc
 
 module _ (last : ℕ) where
-  star_faults : (t : At Token) (ts : Tokens) (x : Token) → t.tok ≡ x → is_sign signs.Star x ≡ true → expr_at last (t ∷ ts) ≡ Err (misplaced last (t ∷ ts))
-  unfolding chain or_at and_at is_at cmp_at inn_at cat_at add_at mul_at
-  star_faults t ts (tok.sign signs.Star) h e = is_fault (expr_at last (t ∷ ts)) (misplaced last (t ∷ ts)) (expr_same last (t ∷ ts) ∙ rw h refl)
-  star_faults t ts _ h e = absurd cc
-
   call_faults : (t o : At Token) (ts : Tokens) (k : AggKind) (x : Token) → t.tok ≡ x → agg_kind x ≡ Some k → is_sign signs.Open o.tok ≡ true → expr_at last (t ∷ o ∷ ts) ≡ Err (LeftOut t.span.start)
   unfolding is_reserved chain or_at and_at is_at cmp_at inn_at cat_at add_at mul_at
   call_faults t o ts k (tok.word words.Count s) h e g = is_fault (expr_at last (t ∷ o ∷ ts)) (LeftOut t.span.start) (expr_same last (t ∷ o ∷ ts) ∙ rw (h, g) refl)
@@ -50,17 +47,6 @@ module _ (last : ℕ) where
   call_faults t o ts k (tok.word words.Min s) h e g = is_fault (expr_at last (t ∷ o ∷ ts)) (LeftOut t.span.start) (expr_same last (t ∷ o ∷ ts) ∙ rw (h, g) refl)
   call_faults t o ts k (tok.word words.Max s) h e g = is_fault (expr_at last (t ∷ o ∷ ts)) (LeftOut t.span.start) (expr_same last (t ∷ o ∷ ts) ∙ rw (h, g) refl)
   call_faults t o ts k _ h e g = absurd cc
-
-  no_star : (ts rest : Tokens) (e : Tree) → Shallow ts e → Ends rest → after (is_sign signs.Star) (ts ++ rest) ≡ None
-  no_star ts rest e s g = of_first (ts ++ rest) (expr_complete last s.1 rest g)
-    where
-      of_first : (us : Tokens) → {f : Part × Tokens} → expr_at last us ≡ Ok f → after (is_sign signs.Star) us ≡ None
-      of_first [] h = refl
-      of_first (t ∷ us) {f} h = of_test (is_sign signs.Star t.tok) refl
-        where
-          of_test : (b : Bool) → is_sign signs.Star t.tok ≡ b → (if b then Some us else None) ≡ None
-          of_test false k = refl
-          of_test true k = absurd (no_both f (misplaced last (t ∷ us)) (sym h ∙ star_faults t us t.tok refl k))
 
   no_call : (ts rest : Tokens) (e : Tree) → Shallow ts e → Ends rest → call_at (ts ++ rest) ≡ None
   no_call ts rest e s g = of_first (ts ++ rest) (expr_complete last s.1 rest g)
@@ -82,43 +68,6 @@ module _ (last : ℕ) where
           of_kind (Some k) j = rw (of_next t us k j h) refl
 
   -- ---- items
-
-  name_no_as : (x : Token) (n : List ℕ) → named x ≡ Some n → is_word words.As x ≡ false
-  unfolding is_reserved
-  name_no_as x n h = of_test (is_word words.As x) refl
-    where
-      of_test : (b : Bool) → is_word words.As x ≡ b → is_word words.As x ≡ false
-      of_test false g = g
-      of_test true g = let k = word_is words.As x g in absurd (let e : named (tok.word words.As k.0) ≡ Some n = sym (ap named k.1) ∙ h in cc)
-
-  name_goes_on : (x : Token) (n : List ℕ) → named x ≡ Some n → may_go_on x ≡ false
-  unfolding is_reserved
-  name_goes_on (tok.word words.And s) n e = absurd cc
-  name_goes_on (tok.word words.Between s) n e = absurd cc
-  name_goes_on (tok.word words.In s) n e = absurd cc
-  name_goes_on (tok.word words.Is s) n e = absurd cc
-  name_goes_on (tok.word words.Not s) n e = absurd cc
-  name_goes_on (tok.word words.Or s) n e = absurd cc
-  name_goes_on (tok.word w s) n e = refl
-  name_goes_on (tok.quoted s) n e = refl
-  name_goes_on (tok.string s) n e = absurd cc
-  name_goes_on (tok.number k) n e = absurd cc
-  name_goes_on (tok.sign s) n e = absurd cc
-
-  nothing_named : (rest : Tokens) → Parted rest → maybe_name rest ≡ Ok (None, rest)
-  nothing_named [] p = refl
-  nothing_named (t ∷ ts) p = rw (no_name_next t p) refl
-
-  alias_reads : (us rest : Tokens) (n : Option (List ℕ)) → AliasIs us n → Parted rest → alias_at last (us ++ rest) ≡ Ok (n, rest)
-  unfolding alias_at
-  alias_reads _ rest _ no_alias p = rw (no_part_word words.As (λ e. cc) (λ e. cc) (λ e. cc) (λ e. cc) rest p, nothing_named rest p) refl
-  alias_reads _ rest _ (as_alias a t n ha hn) p = rw (ha, hn) refl
-  alias_reads _ rest _ (bare_alias t n hn) p = rw (name_no_as t.tok n hn, hn) refl
-
-  alias_ends : (us rest : Tokens) (n : Option (List ℕ)) → AliasIs us n → Parted rest → Ends (us ++ rest)
-  alias_ends _ rest _ no_alias p = part_ends rest p
-  alias_ends _ rest _ (as_alias a t n ha hn) p = let k = word_is words.As a.tok ha in rw k.1 refl
-  alias_ends _ rest _ (bare_alias t n hn) p = name_goes_on t.tok n hn
 
   agg_no_star : (x : Token) (k : AggKind) → agg_kind x ≡ Some k → is_sign signs.Star x ≡ false
   agg_no_star (tok.word w s) k e = refl
@@ -152,7 +101,7 @@ module _ (last : ℕ) where
     behind = xs ++ (c ∷ rest);
     no_all = rw (agg_no_star k.tok kind hk) refl;
     calls = rw (hk, ho) (ap (λ us. Some (kind, us)) (append_assoc xs (c ∷ []) rest));
-    reads = rw (no_rows_star kind (xs ++ (c ∷ rest)) (no_star xs (c ∷ rest) e q (close_ends c rest hc)), tree_reads last xs (c ∷ rest) e q (close_ends c rest hc), hc) refl;
+    reads = rw (no_rows_star kind (xs ++ (c ∷ rest)) (no_star last xs (c ∷ rest) e q (close_ends c rest hc)), tree_reads last xs (c ∷ rest) e q (close_ends c rest hc), hc) refl;
   }
 
   call_reads : (ts us rest : Tokens) (a : AggTree) (n : Option (List ℕ)) → Called ts (us ++ rest) a → alias_at last (us ++ rest) ≡ Ok (n, rest) → item_at last (ts ++ (us ++ rest)) ≡ Ok (Aggregate a n, rest)
@@ -161,7 +110,7 @@ module _ (last : ℕ) where
 
   value_reads : (ts us rest : Tokens) (e : Tree) (n : Option (List ℕ)) → Shallow ts e → Ends (us ++ rest) → alias_at last (us ++ rest) ≡ Ok (n, rest) → item_at last (ts ++ (us ++ rest)) ≡ Ok (Value e n, rest)
   unfolding item_at
-  value_reads ts us rest e n q g h = rw (no_star ts (us ++ rest) e q g, no_call ts (us ++ rest) e q g, tree_reads last ts (us ++ rest) e q g, h) refl
+  value_reads ts us rest e n q g h = rw (no_star last ts (us ++ rest) e q g, no_call ts (us ++ rest) e q g, tree_reads last ts (us ++ rest) e q g, h) refl
 
   star_reads : (s : At Token) (rest : Tokens) → Is (is_sign signs.Star) s → item_at last (s ∷ rest) ≡ Ok (All, rest)
   unfolding item_at
@@ -169,8 +118,8 @@ module _ (last : ℕ) where
 
   item_reads : (s t : List ItemTree) (ts rest : Tokens) → Unit {0} → AddsItem Shallow s ts t → Unit {0} → Parted rest → added (item_at last) s (ts ++ rest) ≡ Ok (t, rest)
   item_reads _ _ _ rest b (a_star is s h) f p = rw (star_reads s rest h) refl
-  item_reads _ _ _ rest b (a_value is ts us e n q a) f p = rw (append_assoc ts us rest, value_reads ts us rest e n q (alias_ends us rest n a p) (alias_reads us rest n a p)) refl
-  item_reads _ _ _ rest b (an_aggregate is ts us g n q a) f p = rw (append_assoc ts us rest, call_reads ts us rest g n (agg_reads ts (us ++ rest) g q) (alias_reads us rest n a p)) refl
+  item_reads _ _ _ rest b (a_value is ts us e n q a) f p = rw (append_assoc ts us rest, value_reads ts us rest e n q (alias_ends last us rest n a p) (alias_reads last us rest n a p)) refl
+  item_reads _ _ _ rest b (an_aggregate is ts us g n q a) f p = rw (append_assoc ts us rest, call_reads ts us rest g n (agg_reads ts (us ++ rest) g q) (alias_reads last us rest n a p)) refl
 
   -- ---- the parts behind the items, each of which stands before the next
 

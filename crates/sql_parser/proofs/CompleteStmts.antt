@@ -11,7 +11,7 @@ use Rattle.iso_lexer.specs.declared.sql_token.SqlSign.TheVariants as signs
 use Rattle.sql_trees.specs.declared.word.Word.{Word}
 use Rattle.sql_trees.specs.declared.word.Word.TheVariants as words
 use Rattle.sql_trees.specs.declared.stmt.Level.{Level}
-use Rattle.sql_trees.specs.Statements.{SetTree, Begin, SetTransaction, SetDeadlockTimeout, DropTables, Inserts, Updates, Deletes}
+use Rattle.sql_trees.specs.Statements.{SetTree, ItemTree, Begin, SetTransaction, SetDeadlockTimeout, DropTables, Inserts, Updates, Deletes}
 use Rattle.sql_trees.specs.Tokens.{Token, Tokens}
 use Rattle.sql_trees.specs.Tokens as tok
 use Rattle.sql_trees.specs.Trees.{Tree}
@@ -22,15 +22,16 @@ use Rattle.sql_blocks.specs.Kept.{all_differ, rows_fit, columns_differ}
 use Rattle.sql_parser.specs.Inner.Parts.{past}
 use Rattle.sql_parser.specs.Readers.{tree_at}
 use Rattle.sql_parser.specs.Transactions.{is_work}
-use Rattle.sql_parser.specs.Grammar.{is_scope, is_to, is_setting, Rows, Is, Key, Names, Perhaps, nothing, one_is, Commas, last_item, next_item, AddsName, adds_name, IsolationIs, uncommitted, committed, repeatable, MaybeLevel, no_level, a_level, AddsValue, adds_value, RowIs, is_row, with_row, no_rows, AddsRow, adds_row, ColumnsAre, unlisted, listed_columns, AddsSet, adds_set, WhereIs, unfiltered, filtered, Shallow}
+use Rattle.sql_parser.specs.Grammar.{is_scope, is_to, is_setting, Rows, Is, Key, Names, Perhaps, nothing, one_is, Commas, last_item, next_item, AddsName, adds_name, IsolationIs, uncommitted, committed, repeatable, MaybeLevel, no_level, a_level, AddsValue, adds_value, RowIs, is_row, with_row, no_rows, AddsRow, adds_row, ColumnsAre, unlisted, listed_columns, AddsSet, adds_set, WhereIs, unfiltered, filtered, ConflictIs, fails, does_nothing, ReturningIs, Shallow}
 use Rattle.sql_parser.specs.Inner.Transactions.{level_at, begin_at, start_at, parameter_at, set_at}
 use Rattle.sql_parser.specs.Tables.{has_name, drop_at}
 use Rattle.sql_parser.specs.Inner.Tables.{after_if}
-use Rattle.sql_parser.specs.Inner.Changes.{distinct_add, row_add, columns_at, insert_at, set_add, update_at}
-use Rattle.sql_parser.specs.Changes.{filter_at, delete_at}
+use Rattle.sql_parser.specs.Inner.Changes.{distinct_add, row_add, columns_at, insert_at, set_add, update_at, delete_at}
+use Rattle.sql_parser.specs.Changes.{filter_at}
 use Rattle.sql_parser.proofs.Keeping.{width_behind, behind_push}
 use Rattle.sql_parser.proofs.StmtLocals.{word_is}
 use Rattle.sql_parser.proofs.Completes.{other_word, not_key, comma_ends, close_ends, no_comma_at_close, no_comma_at_key, perhaps_past, tree_reads, list_reads}
+use Rattle.sql_parser.proofs.CompleteReturning.{conflict_reads, returning_reads, none_at_returning, returning_ends}
 
 -- ---- transactions
 
@@ -191,8 +192,8 @@ module _ (last : ℕ) where
   rows_add : (w : Option ℕ) (s t : Rows) (ts rest : Tokens) → Widths w s → AddsRow Shallow s ts t → Fit w t → Unit {0} → row_add last s (ts ++ rest) ≡ Ok (t, rest)
   rows_add w _ _ _ rest b (adds_row s ts es h) f g = row_reads s ts rest es h (ap (λ o. fits o (length es)) b ∙ (rows_pop w s.rows es f).1)
 
-  rows_read : (columns : Option (List (List ℕ))) (ts : Tokens) (r : Rows) → Commas (AddsRow Shallow) (no_rows columns) ts r → rows_fit (option_map length columns) r.rows ≡ true → items_at (row_add last) (no_rows columns) ts ≡ Ok (r, [])
-  rows_read columns ts r k h = ap (items_at (row_add last) (no_rows columns)) (sym (append-nil ts)) ∙ list_reads (row_add last) (AddsRow Shallow) (Widths (option_map length columns)) (Fit (option_map length columns)) (λ rest. Unit {0}) (rows_go (option_map length columns)) (rows_come (option_map length columns)) (rows_add (option_map length columns)) (λ c us h. tt) k refl h [] tt refl
+  rows_read : (columns : Option (List (List ℕ))) (ts rest : Tokens) (r : Rows) → Commas (AddsRow Shallow) (no_rows columns) ts r → rows_fit (option_map length columns) r.rows ≡ true → after (is_sign signs.Comma) rest ≡ None → items_at (row_add last) (no_rows columns) (ts ++ rest) ≡ Ok (r, rest)
+  rows_read columns ts rest r k h e = list_reads (row_add last) (AddsRow Shallow) (Widths (option_map length columns)) (Fit (option_map length columns)) (λ rest. Unit {0}) (rows_go (option_map length columns)) (rows_come (option_map length columns)) (rows_add (option_map length columns)) (λ c us h. tt) k refl h rest tt e
 
   -- ---- INSERT
 
@@ -216,9 +217,16 @@ module _ (last : ℕ) where
       let names = list_reads (distinct_add last) AddsName (λ s. Unit {0}) Differ (λ rest. Unit {0}) (λ s t ts b a. tt) distinct_come distinct_reads (λ c us h. tt) k tt d (c ∷ (v ∷ rest)) tt (no_comma_at_close c (v ∷ rest) hc) in
       rw (ho, append_assoc ts (c ∷ []) (v ∷ rest), names, hc) refl
 
-  pub insert_reads : (o n v : At Token) (name : List ℕ) (cs ts : Tokens) (columns : Option (List (List ℕ))) (rows : Rows) → Key words.Into o → Names name n → ColumnsAre cs columns → Key words.Values v → Commas (AddsRow Shallow) (no_rows columns) ts rows → columns_differ columns ≡ true → rows_fit (option_map length columns) rows.rows ≡ true → insert_at last (o ∷ n ∷ (cs ++ v ∷ ts)) ≡ Ok (Inserts (record { table = name; columns = columns; rows = rows.rows }), [])
+  conflict_commas : (cs rest : Tokens) (b : Bool) → ConflictIs cs b → after (is_sign signs.Comma) rest ≡ None → after (is_sign signs.Comma) (cs ++ rest) ≡ None
+  conflict_commas _ rest _ fails e = e
+  conflict_commas _ rest _ (does_nothing o c d n ho hc hd hn) e = no_comma_at_key words.On o (c ∷ d ∷ n ∷ rest) ho
+
+  pub insert_reads : (o n v : At Token) (name : List ℕ) (cs ts ds rs : Tokens) (columns : Option (List (List ℕ))) (rows : Rows) (b : Bool) (t : Option (List ItemTree)) → Key words.Into o → Names name n → ColumnsAre cs columns → Key words.Values v → Commas (AddsRow Shallow) (no_rows columns) ts rows → ConflictIs ds b → ReturningIs Shallow rs t → columns_differ columns ≡ true → rows_fit (option_map length columns) rows.rows ≡ true → insert_at last (o ∷ n ∷ (cs ++ v ∷ (ts ++ (ds ++ rs)))) ≡ Ok (Inserts (record { table = name; columns = columns; rows = rows.rows; do_nothing = b; returning = t }), [])
   unfolding insert_at
-  insert_reads o n v name cs ts columns rows ho hn hc hv k d f = rw (ho, hn, columns_read cs columns v ts hc d hv, hv, rows_read columns ts rows k f) refl
+  insert_reads o n v name cs ts ds rs columns rows b t ho hn hc hv k p q d f =
+      let all = rows_read columns ts (ds ++ rs) rows k f (conflict_commas ds rs b p (none_at_returning (is_sign signs.Comma) (λ s. refl) rs t q)) in
+      let does = conflict_reads last ds rs b p (none_at_returning (is_word words.On) (λ s. refl) rs t q) in
+      rw (ho, hn, columns_read cs columns v (ts ++ (ds ++ rs)) hc d hv, hv, all, does, returning_reads last rs t q) refl
 
   -- ---- UPDATE and DELETE
 
@@ -227,16 +235,16 @@ module _ (last : ℕ) where
   where_reads _ rest _ unfiltered e h = rw h refl
   where_reads _ rest _ (filtered w ts x hw q) e h = rw (hw, tree_reads last ts rest x q e) refl
 
-  where_end : (ws : Tokens) (filter : Option Tree) → WhereIs Shallow ws filter → filter_at last ws ≡ Ok (filter, [])
-  where_end ws filter h = ap (filter_at last) (sym (append-nil ws)) ∙ where_reads ws [] filter h tt refl
+  where_returns : (ws rs : Tokens) (filter : Option Tree) (t : Option (List ItemTree)) → WhereIs Shallow ws filter → ReturningIs Shallow rs t → filter_at last (ws ++ rs) ≡ Ok (filter, rs)
+  where_returns ws rs filter t h k = where_reads ws rs filter h (returning_ends rs t k) (none_at_returning (is_word words.Where) (λ s. refl) rs t k)
 
-  pub where_ends : (ws : Tokens) (filter : Option Tree) → WhereIs Shallow ws filter → Ends ws
-  where_ends _ _ unfiltered = tt
-  where_ends _ _ (filtered w ts x hw q) = let k = word_is words.Where w.tok hw in rw k.1 refl
+  where_ends : (ws rest : Tokens) (filter : Option Tree) → WhereIs Shallow ws filter → Ends rest → Ends (ws ++ rest)
+  where_ends _ rest _ unfiltered e = e
+  where_ends _ rest _ (filtered w ts x hw q) e = let k = word_is words.Where w.tok hw in rw k.1 refl
 
-  where_commas : (ws : Tokens) (filter : Option Tree) → WhereIs Shallow ws filter → after (is_sign signs.Comma) ws ≡ None
-  where_commas _ _ unfiltered = refl
-  where_commas _ _ (filtered w ts x hw q) = no_comma_at_key words.Where w ts hw
+  where_commas : (ws rest : Tokens) (filter : Option Tree) → WhereIs Shallow ws filter → after (is_sign signs.Comma) rest ≡ None → after (is_sign signs.Comma) (ws ++ rest) ≡ None
+  where_commas _ rest _ unfiltered e = e
+  where_commas _ rest _ (filtered w ts x hw q) e = no_comma_at_key words.Where w (ts ++ rest) hw
 
   abbrev SetsDiffer : List SetTree → Type 0
   SetsDiffer ss = all_differ (set_columns ss) ≡ true
@@ -251,12 +259,13 @@ module _ (last : ℕ) where
   unfolding set_add
   set_reads _ _ _ rest b (adds_set ss n q name ts e hn hq k) f g = rw (hn, (set_pop ss (record { column = name; value = e }) f).1, hq, tree_reads last ts rest e k g) refl
 
-  pub update_reads : (n s : At Token) (name : List ℕ) (ts ws : Tokens) (sets : List SetTree) (filter : Option Tree) → Names name n → Key words.Set s → Commas (AddsSet Shallow) [] ts sets → WhereIs Shallow ws filter → all_differ (set_columns sets) ≡ true → update_at last (n ∷ s ∷ (ts ++ ws)) ≡ Ok (Updates (record { table = name; sets = sets; filter = filter }), [])
+  pub update_reads : (n s : At Token) (name : List ℕ) (ts ws rs : Tokens) (sets : List SetTree) (filter : Option Tree) (t : Option (List ItemTree)) → Names name n → Key words.Set s → Commas (AddsSet Shallow) [] ts sets → WhereIs Shallow ws filter → ReturningIs Shallow rs t → all_differ (set_columns sets) ≡ true → update_at last (n ∷ s ∷ (ts ++ (ws ++ rs))) ≡ Ok (Updates (record { table = name; sets = sets; filter = filter; returning = t }), [])
   unfolding update_at
-  update_reads n s name ts ws sets filter hn hs k w f =
-      let all = list_reads (set_add last) (AddsSet Shallow) (λ s. Unit {0}) SetsDiffer Ends (λ s t ts b a. tt) sets_come set_reads (λ c us h. comma_ends c us h) k tt f ws (where_ends ws filter w) (where_commas ws filter w) in
-      rw (hn, hs, all, where_end ws filter w) refl
+  update_reads n s name ts ws rs sets filter t hn hs k w r f =
+      let commas = where_commas ws rs filter w (none_at_returning (is_sign signs.Comma) (λ s. refl) rs t r) in
+      let all = list_reads (set_add last) (AddsSet Shallow) (λ s. Unit {0}) SetsDiffer Ends (λ s t ts b a. tt) sets_come set_reads (λ c us h. comma_ends c us h) k tt f (ws ++ rs) (where_ends ws rs filter w (returning_ends rs t r)) commas in
+      rw (hn, hs, all, where_returns ws rs filter t w r, returning_reads last rs t r) refl
 
-  pub delete_reads : (f n : At Token) (name : List ℕ) (ws : Tokens) (filter : Option Tree) → Key words.From f → Names name n → WhereIs Shallow ws filter → delete_at last (f ∷ n ∷ ws) ≡ Ok (Deletes (record { table = name; filter = filter }), [])
+  pub delete_reads : (f n : At Token) (name : List ℕ) (ws rs : Tokens) (filter : Option Tree) (t : Option (List ItemTree)) → Key words.From f → Names name n → WhereIs Shallow ws filter → ReturningIs Shallow rs t → delete_at last (f ∷ n ∷ (ws ++ rs)) ≡ Ok (Deletes (record { table = name; filter = filter; returning = t }), [])
   unfolding delete_at
-  delete_reads f n name ws filter hf hn w = rw (hf, hn, where_end ws filter w) refl
+  delete_reads f n name ws rs filter t hf hn w r = rw (hf, hn, where_returns ws rs filter t w r, returning_reads last rs t r) refl

@@ -26,7 +26,7 @@ use Rattle.sql_expressions.specs.Readers.{is_word, is_sign}
 use Rattle.sql_expressions.specs.Reading.{comparison_op, truth_of, agg_kind}
 use Rattle.sql_expressions.specs.Grammar.{IsWord, Level, OR, AND, CAT, ADD, MUL, operator_at, SpellsIn, ItemsIn, only, chain, negation, is, comparison, contained, between, minus, plus, parens, literal, one, next, IsLeaf, number, text, column, yes, no, null, IsIn, IsBetween, IsIs}
 use Rattle.sql_parser.specs.Transactions.{is_work}
-use Rattle.sql_parser.specs.Grammar.{is_scope, is_to, is_setting, Constraints, kind_of, Rows, Is, Key, Perhaps, nothing, one_is, Commas, last_item, next_item, AddsName, adds_name, IsolationIs, uncommitted, committed, repeatable, MaybeLevel, no_level, a_level, AddsColumn, adds_column, Says, no_more, not_null, primary_key, unique_key, AddsPart, a_column, a_primary, a_unique, AddsValue, adds_value, RowIs, is_row, AddsRow, adds_row, ColumnsAre, unlisted, listed_columns, AddsSet, adds_set, WhereIs, unfiltered, filtered, AliasIs, no_alias, as_alias, bare_alias, AggIs, all_rows, of_values, AddsItem, a_star, a_value, an_aggregate, FromIs, no_table, from_table, DirectionIs, as_ever, ascending, descending, NullsAre, unsaid, nulls_first, nulls_last, AddsKey, adds_key, OrderIs, unordered, ordered, StrengthIs, for_update, for_no_key_update, for_share, for_key_share, PolicyIs, wait, no_wait, skip_locked, LockIs, no_lock, locks, Spells, begin, start, commit, end, rollback, abort, set_transaction, set_timeout, create, drop, drop_if, insert, update, delete, select, Shallow}
+use Rattle.sql_parser.specs.Grammar.{is_scope, is_to, is_setting, Constraints, kind_of, Rows, Is, Key, Perhaps, nothing, one_is, Commas, last_item, next_item, AddsName, adds_name, IsolationIs, uncommitted, committed, repeatable, MaybeLevel, no_level, a_level, AddsColumn, adds_column, Says, no_more, not_null, primary_key, unique_key, AddsPart, a_column, a_primary, a_unique, AddsValue, adds_value, RowIs, is_row, AddsRow, adds_row, ColumnsAre, unlisted, listed_columns, AddsSet, adds_set, WhereIs, unfiltered, filtered, AliasIs, no_alias, as_alias, bare_alias, AggIs, all_rows, of_values, AddsItem, a_star, a_value, an_aggregate, FromIs, no_table, from_table, DirectionIs, as_ever, ascending, descending, NullsAre, unsaid, nulls_first, nulls_last, AddsKey, adds_key, OrderIs, unordered, ordered, StrengthIs, for_update, for_no_key_update, for_share, for_key_share, PolicyIs, wait, no_wait, skip_locked, LockIs, no_lock, locks, ConflictIs, fails, does_nothing, AddsReturned, returns_all, returns_value, ReturningIs, returns_nothing, returns, Spells, begin, start, commit, end, rollback, abort, set_transaction, set_timeout, create, drop, drop_if, insert, update, delete, select, Shallow}
 use Rattle.sql_parser.specs.Tables.{Placed, TableRead}
 use Rattle.sql_parser.specs.Grammar as grammar
 
@@ -286,6 +286,18 @@ lock_free : (ts : Tokens) (l : Option Lock) → LockIs ts l → Free ts
 lock_free _ _ no_lock = refl
 lock_free _ _ (locks f ss ps s p hf hs hp) = keys_free words.For f (ss ++ ps) hf (both ss ps (strength_free ss s hs) (policy_free ps p hp))
 
+conflict_free : (ts : Tokens) (b : Bool) → ConflictIs ts b → Free ts
+conflict_free _ _ fails = refl
+conflict_free _ _ (does_nothing o c d n ho hc hd hn) = keys_free words.On o (c ∷ d ∷ n ∷ []) ho (keys_free words.Conflict c (d ∷ n ∷ []) hc (keys_free words.Do d (n ∷ []) hd (keys_free words.Nothing n [] hn refl)))
+
+adds_returned_free : (s t : List ItemTree) (ts : Tokens) → AddsReturned Shallow s ts t → Free ts
+adds_returned_free _ _ _ (returns_all js s h) = first s [] (star_free s.tok h) refl
+adds_returned_free _ _ _ (returns_value js ts us e n h a) = both ts us (shallow_free ts e h) (alias_free us n a)
+
+returning_free : (ts : Tokens) (t : Option (List ItemTree)) → ReturningIs Shallow ts t → Free ts
+returning_free _ _ returns_nothing = refl
+returning_free _ _ (returns r ts js h q) = keys_free words.Returning r ts h (commas_free (AddsReturned Shallow) adds_returned_free q)
+
 -- ---- statements
 
 pub stmt_free : (ts : Tokens) (s : StmtTree) → Spells Shallow ts s → Free ts
@@ -300,7 +312,12 @@ stmt_free _ _ (set_timeout s d q v ws hs p hd hq hv) = keys_free words.Set s (ws
 stmt_free _ _ (create c t n o z name ts parts hc ht hn ho q hz) = keys_free words.Create c (t ∷ n ∷ o ∷ (ts ++ z ∷ [])) hc (keys_free words.Table t (n ∷ o ∷ (ts ++ z ∷ [])) ht (first n (o ∷ (ts ++ z ∷ [])) (name_free n.tok name hn) (in_parens o z ts ho (commas_free AddsPart adds_part_free q) hz)))
 stmt_free _ _ (drop d t ts ns hd ht q) = keys_free words.Drop d (t ∷ ts) hd (keys_free words.Table t ts ht (commas_free AddsName adds_name_free q))
 stmt_free _ _ (drop_if d t i e ts ns hd ht hi he q) = keys_free words.Drop d (t ∷ i ∷ e ∷ ts) hd (keys_free words.Table t (i ∷ e ∷ ts) ht (keys_free words.If i (e ∷ ts) hi (keys_free words.Exists e ts he (commas_free AddsName adds_name_free q))))
-stmt_free _ _ (insert i o n v name cs ts columns rows hi ho hn q hv r) = keys_free words.Insert i (o ∷ n ∷ (cs ++ v ∷ ts)) hi (keys_free words.Into o (n ∷ (cs ++ v ∷ ts)) ho (first n (cs ++ v ∷ ts) (name_free n.tok name hn) (both cs (v ∷ ts) (columns_free cs columns q) (keys_free words.Values v ts hv (commas_free (AddsRow Shallow) adds_row_free r)))))
-stmt_free _ _ (update u n s name ts ws sets f hu hn hs q w) = keys_free words.Update u (n ∷ s ∷ (ts ++ ws)) hu (first n (s ∷ (ts ++ ws)) (name_free n.tok name hn) (keys_free words.Set s (ts ++ ws) hs (both ts ws (commas_free (AddsSet Shallow) adds_set_free q) (where_free ws f w))))
-stmt_free _ _ (delete d f n name ws filter hd hf hn w) = keys_free words.Delete d (f ∷ n ∷ ws) hd (keys_free words.From f (n ∷ ws) hf (first n ws (name_free n.tok name hn) (where_free ws filter w)))
+stmt_free _ _ (insert i o n v name cs ts ds vs columns rows b t hi ho hn q hv r d k) =
+    let behind = ts ++ (ds ++ vs) in
+    keys_free words.Insert i (o ∷ n ∷ (cs ++ v ∷ behind)) hi (keys_free words.Into o (n ∷ (cs ++ v ∷ behind)) ho (first n (cs ++ v ∷ behind) (name_free n.tok name hn) (both cs (v ∷ behind) (columns_free cs columns q)
+    (keys_free words.Values v behind hv (both ts (ds ++ vs) (commas_free (AddsRow Shallow) adds_row_free r) (both ds vs (conflict_free ds b d) (returning_free vs t k)))))))
+stmt_free _ _ (update u n s name ts ws vs sets f t hu hn hs q w k) =
+    let behind = ts ++ (ws ++ vs) in
+    keys_free words.Update u (n ∷ s ∷ behind) hu (first n (s ∷ behind) (name_free n.tok name hn) (keys_free words.Set s behind hs (both ts (ws ++ vs) (commas_free (AddsSet Shallow) adds_set_free q) (both ws vs (where_free ws f w) (returning_free vs t k)))))
+stmt_free _ _ (delete d f n name ws vs filter t hd hf hn w k) = keys_free words.Delete d (f ∷ n ∷ (ws ++ vs)) hd (keys_free words.From f (n ∷ (ws ++ vs)) hf (first n (ws ++ vs) (name_free n.tok name hn) (both ws vs (where_free ws filter w) (returning_free vs t k))))
 stmt_free _ _ (select s js fs ws os ls i t f o l hs a b c d e) = keys_free words.Select s (js ++ (fs ++ (ws ++ (os ++ ls)))) hs (both js (fs ++ (ws ++ (os ++ ls))) (commas_free (AddsItem Shallow) adds_item_free a) (both fs (ws ++ (os ++ ls)) (from_free fs t b) (both ws (os ++ ls) (where_free ws f c) (both os ls (order_free os o d) (lock_free ls l e)))))

@@ -17,14 +17,13 @@ use Rattle.sql_trees.specs.Trees.{Tree, AggTree, CountRows, Of}
 use Rattle.sql_expressions.specs.Results.{◌>>=◌}
 use Rattle.sql_expressions.specs.Readers.{after, expect, is_sign, is_word, place_of, items_at, keyword, name_at, closed, added}
 use Rattle.sql_blocks.specs.Parts.{fits, set_columns, is_allowed}
-use Rattle.sql_blocks.specs.Kept.{is_shallow, maybe_shallow, item_shallow, all_differ, columns_differ, rows_fit, is_kept, makes_or_drops}
+use Rattle.sql_blocks.specs.Kept.{is_shallow, maybe_shallow, item_shallow, all_differ, columns_differ, rows_fit, returned_kept, returning_kept, is_kept, makes_or_drops}
 use Rattle.sql_parser.specs.Readers.{tree_at}
 use Rattle.sql_parser.specs.Tables.{has_name}
 use Rattle.sql_parser.specs.Grammar.{Rows}
-use Rattle.sql_parser.specs.Inner.Changes.{distinct_add, row_add, columns_at, insert_at, set_value, set_add, update_at}
-use Rattle.sql_parser.specs.Changes.{filter_at, delete_at}
+use Rattle.sql_parser.specs.Inner.Changes.{distinct_add, row_add, columns_at, returning_at, insert_at, set_value, set_add, update_at, delete_at}
+use Rattle.sql_parser.specs.Changes.{alias_at, conflict_at, filter_at, returned_at}
 use Rattle.sql_parser.specs.Inner.Queries.{call_at, counts_rows, direction_at, nulls_at, agg_at, item_of, item_at, from_at, order_add, order_at, lock_at, query_of, select_at}
-use Rattle.sql_parser.specs.Queries.{alias_at}
 use Rattle.sql_parser.proofs.Depths.{read_shallow}
 use Rattle.sql_parser.proofs.Steps.{bind_ok, ok_same, unless_ok, when_ok, items_hold, push_all}
 
@@ -115,8 +114,54 @@ module _ (last : ℕ) where
           let b = bind_ok (expect last (is_sign signs.Close) a.0.1) (λ rest. Ok (Some a.0.0, rest)) x a.2 in
           subst (λ (y : Option (List (List ℕ)) × Tokens). columns_differ y.0 ≡ true) (ok_same (Some a.0.0, b.0) x b.2) (items_hold (distinct_add last) (λ ns. all_differ ns ≡ true) distinct_keeps [] us a.0 refl a.1)
 
+  -- ---- RETURNING
+
+  returned_keeps : (ts : Tokens) (x : ItemTree × Tokens) → returned_at last ts ≡ Ok x → returned_kept x.0 ≡ true
+  unfolding returned_at
+  returned_keeps ts x e = of_star (after (is_sign signs.Star) ts) e
+    where
+      of_star : (o : Option Tokens) → option_map_or (λ us. Ok (All, us)) o (tree_at last ts >>= λ a. alias_at last a.1 >>= λ n. Ok (Value a.0 n.0, n.1)) ≡ Ok x → returned_kept x.0 ≡ true
+      of_star (Some us) h = subst (λ (y : ItemTree × Tokens). returned_kept y.0 ≡ true) (ok_same (All, us) x h) refl
+      of_star None h =
+          let a = bind_ok (tree_at last ts) (λ a. alias_at last a.1 >>= λ n. Ok (Value a.0 n.0, n.1)) x h in
+          let n = bind_ok (alias_at last a.0.1) (λ n. Ok (Value a.0.0 n.0, n.1)) x a.2 in
+          subst (λ (y : ItemTree × Tokens). returned_kept y.0 ≡ true) (ok_same (Value a.0.0 n.0.0, n.0.1) x n.2) (read_shallow last ts a.0 a.1)
+
+  returned_add_keep : (is : List ItemTree) (ts : Tokens) (x : List ItemTree × Tokens) → list_all returned_kept is ≡ true → added (returned_at last) is ts ≡ Ok x → list_all returned_kept x.0 ≡ true
+  returned_add_keep is ts x h e =
+      let a = bind_ok (returned_at last ts) (λ y. Ok (is ++ y.0 ∷ [], y.1)) x e in
+      subst (λ (y : List ItemTree × Tokens). list_all returned_kept y.0 ≡ true) (ok_same (is ++ a.0.0 ∷ [], a.0.1) x a.2) (push_all returned_kept is a.0.0 h (returned_keeps ts a.0 a.1))
+
+  returning_keeps : (ts : Tokens) (x : Option (List ItemTree) × Tokens) → returning_at last ts ≡ Ok x → returning_kept x.0 ≡ true
+  unfolding returning_at
+  returning_keeps ts x e = of_word (after (is_word words.Returning) ts) e
+    where
+      of_word : (o : Option Tokens) → option_map_or (λ us. items_at (added (returned_at last)) [] us >>= λ y. Ok (Some y.0, y.1)) o (Ok (None, ts)) ≡ Ok x → returning_kept x.0 ≡ true
+      of_word None h = subst (λ (y : Option (List ItemTree) × Tokens). returning_kept y.0 ≡ true) (ok_same (None, ts) x h) refl
+      of_word (Some us) h =
+          let a = bind_ok (items_at (added (returned_at last)) [] us) (λ y. Ok (Some y.0, y.1)) x h in
+          subst (λ (y : Option (List ItemTree) × Tokens). returning_kept y.0 ≡ true) (ok_same (Some a.0.0, a.0.1) x a.2) (items_hold (added (returned_at last)) (λ is. list_all returned_kept is ≡ true) returned_add_keep [] us a.0 refl a.1)
+
+  -- the statement that RETURNING ends
+  module _ (made : Option (List ItemTree) → StmtTree) where
+    abbrev returns_made : Tokens → Result (StmtTree × Tokens) SqlFault
+    returns_made us = returning_at last us >>= λ t. Ok (made t.0, t.1)
+
+    made_fine : (us : Tokens) (x : StmtTree × Tokens) → ((t : Option (List ItemTree)) → returning_kept t ≡ true → Fine false (made t)) → returns_made us ≡ Ok x → Fine false x.0
+    made_fine us x fine e =
+        let t = bind_ok (returning_at last us) (λ t. Ok (made t.0, t.1)) x e in
+        subst (λ (y : StmtTree × Tokens). Fine false y.0) (ok_same (made t.0.0, t.0.1) x t.2) (fine t.0.0 (returning_keeps us t.0 t.1))
+
+  -- ---- INSERT
+
+  abbrev inserted : List ℕ → Option (List (List ℕ)) → List (List Tree) → Bool → Option (List ItemTree) → StmtTree
+  inserted table columns rows d t = Inserts (record { table = table; columns = columns; rows = rows; do_nothing = d; returning = t })
+
+  abbrev conflict_behind : List ℕ → Option (List (List ℕ)) → List (List Tree) → Tokens → Result (StmtTree × Tokens) SqlFault
+  conflict_behind table columns rows us = conflict_at last us >>= λ d. returns_made (inserted table columns rows d.0) d.1
+
   abbrev insert_rows : List ℕ → Option (List (List ℕ)) → Tokens → Result (StmtTree × Tokens) SqlFault
-  insert_rows table columns vs = items_at (row_add last) (record { rows = []; width = option_map length columns }) vs >>= λ r. Ok (Inserts (record { table = table; columns = columns; rows = r.0.rows }), r.1)
+  insert_rows table columns vs = items_at (row_add last) (record { rows = []; width = option_map length columns }) vs >>= λ r. conflict_behind table columns r.0.rows r.1
 
   pub insert_fine : (ts : Tokens) (x : StmtTree × Tokens) → insert_at last ts ≡ Ok x → Fine false x.0
   unfolding insert_at
@@ -125,13 +170,16 @@ module _ (last : ℕ) where
       let n = bind_ok (name_at last a.0) (λ n. columns_at last n.1 >>= λ c. keyword last words.Values c.1 >>= λ vs. insert_rows n.0 c.0 vs) x a.2 in
       let c = bind_ok (columns_at last n.0.1) (λ c. keyword last words.Values c.1 >>= λ vs. insert_rows n.0.0 c.0 vs) x n.2 in
       let v = bind_ok (keyword last words.Values c.0.1) (λ vs. insert_rows n.0.0 c.0.0 vs) x c.2 in
-      let r = bind_ok (items_at (row_add last) (record { rows = []; width = option_map length c.0.0 }) v.0) (λ r. Ok (Inserts (record { table = n.0.0; columns = c.0.0; rows = r.0.rows }), r.1)) x v.2 in
+      let r = bind_ok (items_at (row_add last) (record { rows = []; width = option_map length c.0.0 }) v.0) (λ r. conflict_behind n.0.0 c.0.0 r.0.rows r.1) x v.2 in
+      let d = bind_ok (conflict_at last r.0.1) (λ d. returns_made (inserted n.0.0 c.0.0 r.0.0.rows d.0) d.1) x r.2 in
       let k = items_hold (row_add last) (RowsKept (option_map length c.0.0)) (row_keeps (option_map length c.0.0)) (record { rows = []; width = option_map length c.0.0 }) v.0 r.0 (record { width = refl; fit = refl; shallow = refl }) r.1 in
-      subst (λ (y : StmtTree × Tokens). Fine false y.0) (ok_same (Inserts (record { table = n.0.0; columns = c.0.0; rows = r.0.0.rows }), r.0.1) x r.2) (record {
-        kept = and_from (columns_differ c.0.0) (rows_fit (option_map length c.0.0) r.0.0.rows && list_all (list_all is_shallow) r.0.0.rows) (columns_keep n.0.1 c.0 c.1)
-            (and_from (rows_fit (option_map length c.0.0) r.0.0.rows) (list_all (list_all is_shallow) r.0.0.rows) k.fit k.shallow);
+      made_fine (inserted n.0.0 c.0.0 r.0.0.rows d.0.0) d.0.1 x (λ t h. record {
+        kept = and_from (columns_differ c.0.0) (rows_fit (option_map length c.0.0) r.0.0.rows && (list_all (list_all is_shallow) r.0.0.rows && returning_kept t)) (columns_keep n.0.1 c.0 c.1)
+            (and_from (rows_fit (option_map length c.0.0) r.0.0.rows) (list_all (list_all is_shallow) r.0.0.rows && returning_kept t) k.fit (and_from (list_all (list_all is_shallow) r.0.0.rows) (returning_kept t) k.shallow h));
         made = refl;
-      })
+      }) d.2
+
+  -- ---- UPDATE and DELETE
 
   filter_keeps : (ts : Tokens) (x : Option Tree × Tokens) → filter_at last ts ≡ Ok x → maybe_shallow x.0 ≡ true
   unfolding filter_at
@@ -162,27 +210,36 @@ module _ (last : ℕ) where
         shallow = push_all (λ (s : SetTree). is_shallow s.value) ss (OneSet a.0.0 v.0.0) k.shallow (read_shallow last c.0 v.0 v.1);
       })
 
+  abbrev updated : List ℕ → List SetTree → Option Tree → Option (List ItemTree) → StmtTree
+  updated table sets filter t = Updates (record { table = table; sets = sets; filter = filter; returning = t })
+
+  abbrev filter_behind : List ℕ → List SetTree → Tokens → Result (StmtTree × Tokens) SqlFault
+  filter_behind table sets us = filter_at last us >>= λ f. returns_made (updated table sets f.0) f.1
+
   pub update_fine : (ts : Tokens) (x : StmtTree × Tokens) → update_at last ts ≡ Ok x → Fine false x.0
   unfolding update_at
   update_fine ts x e =
-      let n = bind_ok (name_at last ts) (λ n. keyword last words.Set n.1 >>= λ us. items_at (set_add last) [] us >>= λ s. filter_at last s.1 >>= λ f. Ok (Updates (record { table = n.0; sets = s.0; filter = f.0 }), f.1)) x e in
-      let a = bind_ok (keyword last words.Set n.0.1) (λ us. items_at (set_add last) [] us >>= λ s. filter_at last s.1 >>= λ f. Ok (Updates (record { table = n.0.0; sets = s.0; filter = f.0 }), f.1)) x n.2 in
-      let s = bind_ok (items_at (set_add last) [] a.0) (λ s. filter_at last s.1 >>= λ f. Ok (Updates (record { table = n.0.0; sets = s.0; filter = f.0 }), f.1)) x a.2 in
-      let f = bind_ok (filter_at last s.0.1) (λ f. Ok (Updates (record { table = n.0.0; sets = s.0.0; filter = f.0 }), f.1)) x s.2 in
+      let n = bind_ok (name_at last ts) (λ n. keyword last words.Set n.1 >>= λ us. items_at (set_add last) [] us >>= λ s. filter_behind n.0 s.0 s.1) x e in
+      let a = bind_ok (keyword last words.Set n.0.1) (λ us. items_at (set_add last) [] us >>= λ s. filter_behind n.0.0 s.0 s.1) x n.2 in
+      let s = bind_ok (items_at (set_add last) [] a.0) (λ s. filter_behind n.0.0 s.0 s.1) x a.2 in
+      let f = bind_ok (filter_at last s.0.1) (λ f. returns_made (updated n.0.0 s.0.0 f.0) f.1) x s.2 in
       let k = items_hold (set_add last) SetsKept set_keeps [] a.0 s.0 (record { differ = refl; shallow = refl }) s.1 in
-      subst (λ (y : StmtTree × Tokens). Fine false y.0) (ok_same (Updates (record { table = n.0.0; sets = s.0.0; filter = f.0.0 }), f.0.1) x f.2) (record {
-        kept = and_from (all_differ (set_columns s.0.0)) (list_all (λ (t : SetTree). is_shallow t.value) s.0.0 && maybe_shallow f.0.0) k.differ
-            (and_from (list_all (λ (t : SetTree). is_shallow t.value) s.0.0) (maybe_shallow f.0.0) k.shallow (filter_keeps s.0.1 f.0 f.1));
+      made_fine (updated n.0.0 s.0.0 f.0.0) f.0.1 x (λ t h. record {
+        kept = and_from (all_differ (set_columns s.0.0)) (list_all (λ (y : SetTree). is_shallow y.value) s.0.0 && (maybe_shallow f.0.0 && returning_kept t)) k.differ
+            (and_from (list_all (λ (y : SetTree). is_shallow y.value) s.0.0) (maybe_shallow f.0.0 && returning_kept t) k.shallow (and_from (maybe_shallow f.0.0) (returning_kept t) (filter_keeps s.0.1 f.0 f.1) h));
         made = refl;
-      })
+      }) f.2
+
+  abbrev deleted : List ℕ → Option Tree → Option (List ItemTree) → StmtTree
+  deleted table filter t = Deletes (record { table = table; filter = filter; returning = t })
 
   pub delete_fine : (ts : Tokens) (x : StmtTree × Tokens) → delete_at last ts ≡ Ok x → Fine false x.0
   unfolding delete_at
   delete_fine ts x e =
-      let a = bind_ok (keyword last words.From ts) (λ us. name_at last us >>= λ n. filter_at last n.1 >>= λ f. Ok (Deletes (record { table = n.0; filter = f.0 }), f.1)) x e in
-      let n = bind_ok (name_at last a.0) (λ n. filter_at last n.1 >>= λ f. Ok (Deletes (record { table = n.0; filter = f.0 }), f.1)) x a.2 in
-      let f = bind_ok (filter_at last n.0.1) (λ f. Ok (Deletes (record { table = n.0.0; filter = f.0 }), f.1)) x n.2 in
-      subst (λ (y : StmtTree × Tokens). Fine false y.0) (ok_same (Deletes (record { table = n.0.0; filter = f.0.0 }), f.0.1) x f.2) (record { kept = filter_keeps n.0.1 f.0 f.1; made = refl })
+      let a = bind_ok (keyword last words.From ts) (λ us. name_at last us >>= λ n. filter_at last n.1 >>= λ f. returns_made (deleted n.0 f.0) f.1) x e in
+      let n = bind_ok (name_at last a.0) (λ n. filter_at last n.1 >>= λ f. returns_made (deleted n.0 f.0) f.1) x a.2 in
+      let f = bind_ok (filter_at last n.0.1) (λ f. returns_made (deleted n.0.0 f.0) f.1) x n.2 in
+      made_fine (deleted n.0.0 f.0.0) f.0.1 x (λ t h. record { kept = and_from (maybe_shallow f.0.0) (returning_kept t) (filter_keeps n.0.1 f.0 f.1) h; made = refl }) f.2
 
   -- ---- SELECT
 

@@ -14,6 +14,7 @@ pub mod QueryLocals
 pub mod ExprFaults
 pub mod ExprLocals
 pub mod Completes
+pub mod CompleteReturning
 pub mod CompleteStmts
 pub mod CompleteQueries
 pub mod CompleteTables

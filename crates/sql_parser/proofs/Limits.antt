@@ -18,7 +18,7 @@ use Rattle.sql_blocks.specs.Parts.{is_session}
 use Rattle.sql_blocks.specs.Kept.{is_kept_in}
 use Rattle.sql_parser.specs.Grammar.{is_ddl, Is, PieceIs, no_stmt, a_stmt, EndedAre, no_pieces, ended_piece, Shallow, OfAnyDepth}
 use Rattle.sql_parser.specs.Inner.Blocks.{stmt_at, at_end, whole_at, piece_at, stmts_at, block_at}
-use Rattle.sql_parser.specs.Stops.{Refuses, at_next, at_word, at_name, at_row, in_expression, too_deep}
+use Rattle.sql_parser.specs.Stops.{Refuses, at_next, at_word, at_conflict, at_name, at_row, in_expression, too_deep}
 use Rattle.sql_parser.specs.Laws.{BeginsDdl, DdlIsRefused, BeginsOneMore, TooManyIsRefused}
 use Rattle.sql_parser.proofs.BlockReadings.{whole_stops, whole_stopped, block_same}
 use Rattle.sql_parser.proofs.Steps.{bind_ok, when_ok, ok_same}
@@ -63,6 +63,7 @@ module _ (last : ℕ) (role : Role) (ts : Tokens) (f : SqlFault) where
   of_refuses : {W : Type 0} {G : Tokens → Type 0} (front rest : Tokens) (e : SqlFault) → Refuses last OfAnyDepth W G front rest e → IsStmtFault e
   of_refuses _ _ _ (at_next front rest) = of_expr (misplaced last rest) (misplaced_told last rest)
   of_refuses _ _ _ (at_word front rest t w h) = tt
+  of_refuses _ _ _ (at_conflict front rest b t h) = tt
   of_refuses _ _ _ (at_name front rest t n h g) = tt
   of_refuses _ _ _ (at_row before row rest es r) = tt
   of_refuses _ _ _ (in_expression before here rest e r) = of_expression here rest e r

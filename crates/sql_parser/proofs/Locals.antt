@@ -5,7 +5,7 @@ use Rattle.std.specs.Option.{option_map_or}
 use Rattle.iso_lexer.specs.declared.token.At.{At}
 use Rattle.iso_lexer.specs.declared.sql_token.SqlSign.TheVariants as signs
 use Rattle.sql_trees.specs.declared.fault.SqlFault.{SqlFault}
-use Rattle.sql_trees.specs.declared.fault.SqlFault.TheVariants.{Syntax, TooDeep}
+use Rattle.sql_trees.specs.declared.fault.SqlFault.TheVariants.{Syntax, LeftOut, TooDeep}
 use Rattle.sql_trees.specs.Tokens.{Token, Tokens, named}
 use Rattle.sql_trees.specs.Trees.{Tree}
 use Rattle.sql_expressions.specs.Results.{◌>>=◌}
@@ -13,7 +13,7 @@ use Rattle.sql_expressions.specs.Readers.{misplaced, place_of, expect, is_sign, 
 use Rattle.sql_expressions.specs.Laws.{head}
 use Rattle.sql_expressions.proofs.Local.{first_is, nothing_is, head_after}
 use Rattle.sql_parser.specs.Grammar.{Is, Names, NameIs, is_name, Commas, last_item, next_item}
-use Rattle.sql_parser.specs.Stops.{Refuses, at_next, at_word, at_name, at_row, in_expression, too_deep}
+use Rattle.sql_parser.specs.Stops.{Refuses, IsLeftOutBehind, at_next, at_word, at_conflict, at_name, at_row, in_expression, too_deep}
 
 -- something is in the grammar
 abbrev pub Inhabited : {A : Type 0} → (Tokens → A → Type 0) → Type 0
@@ -27,6 +27,7 @@ module _ (last : ℕ) (E : Tokens → Tree → Type 0) (W : Type 0) (G H : Token
   pub stands_behind : (front rest : Tokens) (f : SqlFault) → Refuses last E W G front rest f → Refuses last E W H (fs ++ front) rest f
   stands_behind _ _ _ (at_next front rest) = at_next (fs ++ front) rest
   stands_behind _ _ _ (at_word front rest t w h) = at_word (fs ++ front) rest t w h
+  stands_behind _ _ _ (at_conflict front rest b t h) = subst (λ x. Refuses last E W H x (t ∷ rest) (LeftOut t.span.start)) (append_assoc fs front (b ∷ [])) (at_conflict (fs ++ front) rest b t h)
   stands_behind _ _ _ (at_name front rest t n h g) = at_name (fs ++ front) rest t n h (subst H (sym (append_assoc fs front (t ∷ []))) (go (front ++ t ∷ []) g))
   stands_behind _ _ _ (at_row before row rest es r) = subst (λ x. Refuses last E W H x rest (Syntax (place_of last row))) (append_assoc fs before row) (at_row (fs ++ before) row rest es r)
   stands_behind _ _ _ (in_expression before here rest f r) = subst (λ x. Refuses last E W H x rest f) (append_assoc fs before here) (in_expression (fs ++ before) here rest f r)
@@ -71,6 +72,10 @@ module _ (last : ℕ) (E : Tokens → Tree → Type 0) (W Any : Type 0) where
 
   pub no_rule_end : {A : Type 0} (Q : Tokens → A → Type 0) (p : Reader A) → Inhabited Q → p [] ≡ Err (misplaced last []) → Local Q p []
   no_rule_end Q p some f = stuck_end Q p (misplaced last []) some (at_next [] []) f
+
+  -- the same behind a token of ON CONFLICT, where the next one is left out
+  pub left_out_at : {A : Type 0} (Q : Tokens → A → Type 0) (p : Reader A) (b t : At Token) (us : Tokens) → Inhabited (λ xs w. Q (b ∷ xs) w) → IsLeftOutBehind b t → ((vs : Tokens) → p (b ∷ t ∷ vs) ≡ Err (LeftOut t.span.start)) → Local Q p (b ∷ t ∷ us)
+  left_out_at Q p b t us some h f = stopped (LeftOut t.span.start) (b ∷ []) (t ∷ us) refl (λ others g. let w = first_is t others g in subst (λ vs. p (b ∷ vs) ≡ Err (LeftOut t.span.start)) (sym w.1) (f w.0)) (λ any. record { begins = some; stands = at_conflict [] us b t h })
 
   -- ---- a reading as another one
 

@@ -26,12 +26,12 @@ use Rattle.sql_blocks.specs.Parts.{column_names, is_allowed}
 use Rattle.sql_expressions.specs.Reading.{agg_kind}
 use Rattle.sql_parser.specs.Readers.{tree_at}
 use Rattle.sql_parser.specs.Tables.{TableRead, keys_fault, created}
-use Rattle.sql_parser.specs.Changes.{filter_at}
-use Rattle.sql_parser.specs.Inner.Queries.{call_at, maybe_name, direction_at, agg_at, item_of, item_at, from_at, nulls_at, order_add, order_at, strength_at, lock_of, lock_at, query_of, select_at}
-use Rattle.sql_parser.specs.Queries.{alias_at, policy_at}
-use Rattle.sql_parser.specs.Grammar.{Is, Key, Names, Commas, AliasIs, no_alias, as_alias, bare_alias, AggIs, all_rows, of_values, AddsItem, a_star, a_value, an_aggregate, FromIs, no_table, from_table, DirectionIs, as_ever, ascending, descending, NullsAre, unsaid, nulls_first, nulls_last, AddsKey, adds_key, OrderIs, unordered, ordered, StrengthIs, for_update, for_no_key_update, for_share, for_key_share, PolicyIs, wait, no_wait, skip_locked, LockIs, no_lock, locks, WhereIs, unfiltered, Spells, select}
-use Rattle.sql_parser.proofs.Locals.{Inhabited, Local, Begun, took, stopped, gives, gives_at, gives_end, behind, same_at, switch_at, switch_end, in_turn, mapped, token_then, token_last, name_then, list_local, some_list, chosen}
-use Rattle.sql_parser.proofs.StmtLocals.{a_word, a_sign, a_name, the_name, key_is}
+use Rattle.sql_parser.specs.Changes.{alias_at, filter_at}
+use Rattle.sql_parser.specs.Inner.Queries.{call_at, direction_at, agg_at, item_of, item_at, from_at, nulls_at, order_add, order_at, strength_at, lock_of, lock_at, query_of, select_at}
+use Rattle.sql_parser.specs.Queries.{policy_at}
+use Rattle.sql_parser.specs.Grammar.{Is, Key, Names, Commas, AliasIs, no_alias, AggIs, all_rows, of_values, AddsItem, a_star, a_value, an_aggregate, FromIs, no_table, from_table, DirectionIs, as_ever, ascending, descending, NullsAre, unsaid, nulls_first, nulls_last, AddsKey, adds_key, OrderIs, unordered, ordered, StrengthIs, for_update, for_no_key_update, for_share, for_key_share, PolicyIs, wait, no_wait, skip_locked, LockIs, no_lock, locks, WhereIs, unfiltered, Spells, select}
+use Rattle.sql_parser.proofs.Locals.{Inhabited, Local, Begun, took, stopped, gives, behind, same_at, switch_at, switch_end, in_turn, mapped, token_then, token_last, name_then, list_local, some_list, chosen}
+use Rattle.sql_parser.proofs.StmtLocals.{a_word, a_sign, a_name, the_name, key_is, alias_local}
 use Rattle.sql_parser.proofs.ChangeLocals.{where_local}
 
 -- a statement that was read, or what is wrong with the whole of it
@@ -80,20 +80,6 @@ module _ (last : ℕ) (E : Tokens → Tree → Type 0) (W Any : Type 0) (an_expr
     (one_name : (t : At Token) (n : List ℕ) → Names n t → (e : Tree) × (tree_at last (t ∷ []) ≡ Ok (e, []))) where
   -- ---- items
 
-  maybe_local : (ts : Tokens) → Local last E W Any AliasIs maybe_name ts
-  maybe_local [] = gives_end last E W Any AliasIs maybe_name None refl no_alias
-  maybe_local (t ∷ us) = of_name (named t.tok) refl
-    where
-      of_name : (o : Option (List ℕ)) → named t.tok ≡ o → Local last E W Any AliasIs maybe_name (t ∷ us)
-      of_name None h = gives_at last E W Any AliasIs maybe_name None t us (λ vs. rw h refl) no_alias
-      of_name (Some n) h = behind last E W Any AliasIs (λ r. Ok (Some n, r)) maybe_name t us (λ vs. rw h refl) (gives last E W Any (λ xs w. AliasIs (t ∷ xs) w) (Some n) us (bare_alias t n h))
-
-  alias_local : (ts : Tokens) → Local last E W Any AliasIs (alias_at last) ts
-  unfolding alias_at
-  alias_local ts = chosen last E W Any AliasIs (is_word words.As) (λ us. name_at last us >>= λ x. Ok (Some x.0, x.1)) maybe_name ts
-      (λ a us ha. name_then last E W Any (λ xs w. AliasIs (a ∷ xs) w) (λ n r. Ok (Some n, r)) us (a_name ∷ [], Some the_name, as_alias a a_name the_name ha refl) (λ t n vs hn. gives last E W Any (λ xs w. AliasIs (a ∷ t ∷ xs) w) (Some n) vs (as_alias a t n ha hn)))
-      (maybe_local ts)
-
   agg_some : (k o : At Token) (kind : AggKind) → agg_kind k.tok ≡ Some kind → Is (is_sign signs.Open) o → Inhabited (λ xs w. AggIs E (k ∷ o ∷ xs) w)
   agg_some k o kind hk ho = (an_expr.0 ++ a_sign signs.Close ∷ [], Of kind an_expr.1, of_values k o (a_sign signs.Close) kind an_expr.0 an_expr.1 hk ho an_expr.2 refl)
 
@@ -135,7 +121,7 @@ module _ (last : ℕ) (E : Tokens → Tree → Type 0) (W Any : Type 0) (an_expr
   expr_item_local ts = in_turn last E W Any E ItemIs (tree_at last) (λ e r. alias_at last r >>= λ n. Ok (Value e n.0, n.1)) ts
       (λ xs e q. ([], Value e None, λ is. a_value is xs [] e None q no_alias))
       (exprs ts)
-      (λ e xs rest split q. mapped last E W Any AliasIs (λ ys w. ItemIs (xs ++ ys) w) (alias_at last) (Value e) rest (λ ys n k is. a_value is xs ys e n q k) (alias_local rest))
+      (λ e xs rest split q. mapped last E W Any AliasIs (λ ys w. ItemIs (xs ++ ys) w) (alias_at last) (Value e) rest (λ ys n k is. a_value is xs ys e n q k) (alias_local last E W Any rest))
 
   agg_none : (k o : At Token) (xs : Tokens) (a : AggTree) → AggIs E (k ∷ o ∷ xs) a → ItemIs (k ∷ o ∷ (xs ++ [])) (Aggregate a None)
   agg_none k o xs a q is = an_aggregate is (k ∷ o ∷ xs) [] a None q no_alias
@@ -144,7 +130,7 @@ module _ (last : ℕ) (E : Tokens → Tree → Type 0) (W Any : Type 0) (an_expr
   call_item_local k o kind hk ho ts = in_turn last E W Any (λ xs w. AggIs E (k ∷ o ∷ xs) w) (λ xs w. ItemIs (k ∷ o ∷ xs) w) (agg_at last kind) (λ a r. alias_at last r >>= λ n. Ok (Aggregate a n.0, n.1)) ts
       (λ xs a q. ([], Aggregate a None, agg_none k o xs a q))
       (agg_local k o kind hk ho ts)
-      (λ a xs rest split q. mapped last E W Any AliasIs (λ ys w. ItemIs (k ∷ o ∷ (xs ++ ys)) w) (alias_at last) (Aggregate a) rest (λ ys n j is. an_aggregate is (k ∷ o ∷ xs) ys a n q j) (alias_local rest))
+      (λ a xs rest split q. mapped last E W Any AliasIs (λ ys w. ItemIs (k ∷ o ∷ (xs ++ ys)) w) (alias_at last) (Aggregate a) rest (λ ys n j is. an_aggregate is (k ∷ o ∷ xs) ys a n q j) (alias_local last E W Any rest))
 
   -- where no call stands, an expression does
   item_same : (t : At Token) (us vs : Tokens) → head vs ≡ head us → call_at (t ∷ us) ≡ None → item_of_call (t ∷ vs) ≡ expr_item (t ∷ vs)

@@ -21,8 +21,8 @@ use Rattle.sql_expressions.specs.Readers.{after, by_first, expect, gives, is_sig
 use Rattle.sql_expressions.specs.Reading.{agg_kind}
 use Rattle.sql_blocks.specs.Parts.{is_allowed}
 use Rattle.sql_parser.specs.Readers.{maybe, list_of, one_of, tree_at, whole}
-use Rattle.sql_parser.specs.Changes.{filter_at}
-use Rattle.sql_parser.specs.Queries.{alias_at, call_at, item_at, sort_key_at, strength_at, policy_at, lock_behind, select_at}
+use Rattle.sql_parser.specs.Changes.{alias_at, filter_at}
+use Rattle.sql_parser.specs.Queries.{call_at, item_at, sort_key_at, strength_at, policy_at, lock_behind, select_at}
 use Rattle.sql_parser.specs.Inner.Queries as queries
 use Rattle.sql_parser.proofs.Readings.{turned, bind_on, option_on, items_alike, two_words}
 use Rattle.sql_parser.proofs.TableReadings.{chain, ended, stated}

@@ -20,14 +20,16 @@ use Rattle.sql_trees.specs.Trees.{Tree}
 use Rattle.sql_expressions.specs.Results.{◌>>=◌}
 use Rattle.sql_expressions.specs.Readers.{expect, is_word, after, keyword, items_at, Reader, name_at, added}
 use Rattle.sql_expressions.proofs.Shapes.{some_token}
-use Rattle.sql_parser.specs.Grammar.{is_unquoted, is_scope, is_to, is_setting, Key, Names, Perhaps, nothing, one_is, Commas, NameIs, is_name, AddsName, adds_name, IsolationIs, uncommitted, committed, repeatable, MaybeLevel, no_level, a_level, Spells, begin, start, set_transaction, set_timeout, drop, drop_if}
+use Rattle.sql_parser.specs.Grammar.{is_unquoted, is_scope, is_to, is_setting, Key, Names, Perhaps, nothing, one_is, Commas, NameIs, is_name, AddsName, adds_name, AliasIs, no_alias, as_alias, bare_alias, IsolationIs, uncommitted, committed, repeatable, MaybeLevel, no_level, a_level, Spells, begin, start, set_transaction, set_timeout, drop, drop_if}
 use Rattle.sql_parser.specs.Inner.Parts.{past, misplaced_word}
 use Rattle.sql_parser.specs.Transactions.{is_work}
 use Rattle.sql_parser.specs.Inner.Transactions.{level_at, begin_at, start_at, parameter_at, set_at}
 use Rattle.sql_parser.specs.Inner.Tables.{after_if}
+use Rattle.sql_parser.specs.Inner.Queries.{maybe_name}
+use Rattle.sql_parser.specs.Changes.{alias_at}
 use Rattle.sql_parser.specs.Tables.{dropped_at, drop_at}
 use Rattle.sql_parser.specs.Stops.{Refuses, at_next, at_word}
-use Rattle.sql_parser.proofs.Locals.{Inhabited, Begins, Local, gives, stuck_at, stuck_end, behind, same_at, switch_at, switch_end, mapped, token_then, token_last, name_then, either, list_local, some_list, Tail, left_of, tail_local, joined, items_is, chosen}
+use Rattle.sql_parser.proofs.Locals.{Inhabited, Begins, Local, gives, gives_at, gives_end, stuck_at, stuck_end, behind, same_at, switch_at, switch_end, mapped, token_then, token_last, name_then, either, list_local, some_list, Tail, left_of, tail_local, joined, items_is, chosen}
 
 -- ---- tokens that can stand there
 
@@ -135,6 +137,23 @@ module _ (last : ℕ) (E : Tokens → Tree → Type 0) (W Any : Type 0) where
       (some_level.0, SetTransaction some_level.1, set_transaction s t some_level.0 some_level.1 h g some_level.2) (λ i vs hi.
       mapped last E W Any (λ xs w. IsolationIs (i ∷ xs) w) (λ xs w. Spells E (s ∷ t ∷ i ∷ xs) w) (level_at last) SetTransaction vs (λ xs v q. set_transaction s t (i ∷ xs) v h g q) (level_local i hi vs)))
       (perhaps_then (λ xs w. Spells E (s ∷ xs) w) is_scope (parameter_at last) ts (λ ws us p. parameter_local w s ws h p us))
+
+  -- ---- names given to items
+
+  maybe_local : (ts : Tokens) → Local last E W Any AliasIs maybe_name ts
+  maybe_local [] = gives_end last E W Any AliasIs maybe_name None refl no_alias
+  maybe_local (t ∷ us) = of_name (named t.tok) refl
+    where
+      of_name : (o : Option (List ℕ)) → named t.tok ≡ o → Local last E W Any AliasIs maybe_name (t ∷ us)
+      of_name None h = gives_at last E W Any AliasIs maybe_name None t us (λ vs. rw h refl) no_alias
+      of_name (Some n) h = behind last E W Any AliasIs (λ r. Ok (Some n, r)) maybe_name t us (λ vs. rw h refl) (gives last E W Any (λ xs w. AliasIs (t ∷ xs) w) (Some n) us (bare_alias t n h))
+
+  -- the name given to an item
+  pub alias_local : (ts : Tokens) → Local last E W Any AliasIs (alias_at last) ts
+  unfolding alias_at
+  alias_local ts = chosen last E W Any AliasIs (is_word words.As) (λ us. name_at last us >>= λ x. Ok (Some x.0, x.1)) maybe_name ts
+      (λ a us ha. name_then last E W Any (λ xs w. AliasIs (a ∷ xs) w) (λ n r. Ok (Some n, r)) us (a_name ∷ [], Some the_name, as_alias a a_name the_name ha refl) (λ t n vs hn. gives last E W Any (λ xs w. AliasIs (a ∷ t ∷ xs) w) (Some n) vs (as_alias a t n ha hn)))
+      (maybe_local ts)
 
   -- ---- DROP
 

@@ -1,4 +1,4 @@
--- What is read of INSERT, UPDATE, CREATE, DROP and SELECT is what the code reads.
+-- What is read of INSERT, UPDATE and DELETE, and of the columns of a key, is what the code reads.
 use Rattle.std.proofs.Common.{◌≡◌, ℕ, Bool, true, false, List, [], ◌∷◌, ◌++◌, length, Option, Some, None, refl, sym, ap, ◌∙◌}
 use Rattle.std.proofs.lemmas.Bool.Decides.{Decides-eqb}
 use Rattle.std.proofs.lemmas.List.{map-append}
@@ -18,7 +18,7 @@ use Rattle.sql_blocks.specs.Parts.{fits, set_columns}
 use Rattle.sql_parser.specs.Grammar.{Rows}
 use Rattle.sql_parser.specs.Readers.{maybe, list_of, tree_at}
 use Rattle.sql_parser.specs.Tables.{has_name, Placed, placed_names, new_name, names_at}
-use Rattle.sql_parser.specs.Changes.{row_at, one_set, filter_at, insert_at, update_at}
+use Rattle.sql_parser.specs.Changes.{row_at, one_set, filter_at, conflict_at, returning_at, insert_at, update_at, delete_at}
 use Rattle.sql_parser.specs.Inner.Tables as tables
 use Rattle.sql_parser.specs.Inner.Changes as changes
 use Rattle.sql_parser.proofs.Readings.{turned, bind_on, bind_twice, option_on, items_same, items_alike}
@@ -66,11 +66,17 @@ module _ (last : ℕ) where
       of_sign x = of_behind x.0.name (expect last (is_sign signs.Equal) x.1)
 
   abbrev updated : List ℕ → List SetTree × Tokens → Result (StmtTree × Tokens) SqlFault
-  updated table x = filter_at last x.1 >>= λ f. Ok (Updates (record { table = table; sets = x.0; filter = f.0 }), f.1)
+  updated table x = filter_at last x.1 >>= λ f. returning_at last f.1 >>= λ r. Ok (Updates (record { table = table; sets = x.0; filter = f.0; returning = r.0 }), r.1)
 
   pub update_same : (ts : Tokens) → update_at last ts ≡ changes.update_at last ts
-  unfolding update_at changes.update_at
+  unfolding returning_at changes.returning_at update_at changes.update_at
   update_same ts = bind_on (name_at last ts) _ _ (λ x. bind_on (keyword last words.Set x.1) _ _ (λ us. ap (λ (r : Result (List SetTree × Tokens) SqlFault). r >>= updated x.0) (sym (items_alike (λ ss vs. turned (λ s. ss ++ s ∷ []) (one_set last ss vs)) (changes.set_add last) set_same [] us))))
+
+  -- ---- DELETE
+
+  pub delete_same : (ts : Tokens) → delete_at last ts ≡ changes.delete_at last ts
+  unfolding returning_at changes.returning_at delete_at changes.delete_at
+  delete_same ts = refl
 
   -- ---- INSERT
 
@@ -153,7 +159,7 @@ module _ (last : ℕ) where
     rows_same ts = ap (λ (w : Option ℕ). items_at (changes.row_add last) (record { rows = []; width = w }) ts) start_same ∙ items_same (rows_read columns) one_more (changes.row_add last) row_same [] ts
 
     abbrev inserted : List ℕ → List (List Tree) × Tokens → Result (StmtTree × Tokens) SqlFault
-    inserted table x = Ok (Inserts (record { table = table; columns = columns; rows = x.0 }), x.1)
+    inserted table x = conflict_at last x.1 >>= λ d. returning_at last d.1 >>= λ r. Ok (Inserts (record { table = table; columns = columns; rows = x.0; do_nothing = d.0; returning = r.0 }), r.1)
 
     inserts : (table : List ℕ) (ts : Tokens) → (items_at one_more [] ts >>= inserted table) ≡ (items_at (changes.row_add last) (record { rows = []; width = option_map length columns }) ts >>= λ x. inserted table (x.0.rows, x.1))
     inserts table ts = of_rows (items_at one_more [] ts) ∙ ap (λ (r : Result (Rows × Tokens) SqlFault). r >>= λ x. inserted table (x.0.rows, x.1)) (sym (rows_same ts))
@@ -166,7 +172,7 @@ module _ (last : ℕ) where
   behind_columns table c = keyword last words.Values c.1 >>= λ us. items_at (one_more c.0) [] us >>= inserted c.0 table
 
   pub insert_same : (ts : Tokens) → insert_at last ts ≡ changes.insert_at last ts
-  unfolding insert_at changes.insert_at
+  unfolding returning_at changes.returning_at insert_at changes.insert_at
   insert_same ts = bind_on (keyword last words.Into ts) _ _ (λ us. bind_on (name_at last us) _ _ (λ n.
       ap (λ (r : Result (Option (List (List ℕ)) × Tokens) SqlFault). r >>= behind_columns n.0) (listed_same n.1)
       ∙ bind_on (changes.columns_at last n.1) (behind_columns n.0) _ (λ c. bind_on (keyword last words.Values c.1) _ _ (λ vs. inserts c.0 n.0 vs))))

@@ -37,7 +37,7 @@ module _ (last : ℕ) where
 
   -- an item of RETURNING: a star or an expression
   unfoldable pub returned_at : Reader ItemTree
-  returned_at = either (is_sign signs.Star) (gives All) (tree_at last >>= λ e. made (Value e) (alias_at last))
+  returned_at = either (is_sign signs.Star) (gives All) (tree_at last >>= λ e. made (Value e) alias_at)
 
   -- RETURNING and its items, if any
   unfoldable pub returning_at : Reader (Option (List ItemTree))

@@ -9,12 +9,13 @@ ghost use Rattle.sql_expressions.specs.Results.{Gives};
 ghost use Rattle.sql_expressions.specs.Readers.{is_sign, expect, items_at};
 ghost use Rattle.sql_blocks.specs.Parts.{set_columns};
 ghost use Rattle.sql_parser.specs.Tables.{has_name};
-ghost use Rattle.sql_parser.specs.Inner.Changes.{set_value, set_add, columns_at, insert_at, update_at};
-ghost use Rattle.sql_parser.specs.Changes.{filter_at, delete_at};
+ghost use Rattle.sql_parser.specs.Inner.Changes.{set_value, set_add, columns_at, insert_at, update_at, delete_at};
+ghost use Rattle.sql_parser.specs.Changes.{filter_at};
 
 use crate::list::{List, items};
 use crate::names::{DistinctNames, RowList, distinct_names, rows};
 use crate::part::{after_open, after_word, close, expr, keyword, name};
+use crate::returning::{conflict, returning};
 use crate::transaction::ReadStmt;
 use iso_lexer::{Name, SqlSign, same_name};
 use sql_expressions::{Parser, Tokens};
@@ -156,11 +157,15 @@ pub fn insert<'t, 'a>(parser: Parser, tokens: Tokens<'t, 'a>) -> ReadStmt<'t, 'a
     let rest = keyword(parser, Word::Values, rest)?;
     let width = width_of(&columns);
     let (RowList { rows, .. }, rest) = rows(parser, width, rest)?;
+    let (do_nothing, rest) = conflict(parser, rest)?;
+    let (returning, rest) = returning(parser, rest)?;
     Ok((
         Stmt::Insert(Insert {
             table,
             columns,
             rows,
+            do_nothing,
+            returning,
         }),
         rest,
     ))
@@ -186,18 +191,20 @@ pub fn update<'t, 'a>(parser: Parser, tokens: Tokens<'t, 'a>) -> ReadStmt<'t, 'a
     let (SetList { sets }, rest) = sets(parser, rest)?;
     let (filter, rest) = filter(parser, rest)?;
     let filter = unboxed(filter);
+    let (returning, rest) = returning(parser, rest)?;
     Ok((
         Stmt::Update(Update {
             table,
             sets,
             filter,
+            returning,
         }),
         rest,
     ))
 }
 
 /// What stands behind DELETE.
-#[tactic(auto, unfolding(crate::specs::Changes::delete_at))]
+#[tactic(auto, unfolding(crate::specs::Inner::Changes::delete_at))]
 pub fn delete<'t, 'a>(parser: Parser, tokens: Tokens<'t, 'a>) -> ReadStmt<'t, 'a>
     ensures { Gives (λ x. (stmt_of x.0, tok_views x.1.now)) result (delete_at parser.text_len (tok_views tokens.now)) }
 {
@@ -205,5 +212,13 @@ pub fn delete<'t, 'a>(parser: Parser, tokens: Tokens<'t, 'a>) -> ReadStmt<'t, 'a
     let (table, rest) = name(parser, tokens)?;
     let (filter, rest) = filter(parser, rest)?;
     let filter = unboxed(filter);
-    Ok((Stmt::Delete(Delete { table, filter }), rest))
+    let (returning, rest) = returning(parser, rest)?;
+    Ok((
+        Stmt::Delete(Delete {
+            table,
+            filter,
+            returning,
+        }),
+        rest,
+    ))
 }

@@ -17,6 +17,7 @@ mod list;
 mod names;
 mod part;
 mod query;
+mod returning;
 mod statement;
 mod table;
 mod table_keys;

@@ -13,7 +13,8 @@ ghost use Rattle.sql_blocks.specs.Inner.Parts.{is_all, is_sorted};
 ghost use Rattle.sql_parser.specs.Inner.Calls.{seen};
 ghost use Rattle.sql_parser.specs.Inner.Pieces.{agg_item_at};
 ghost use Rattle.sql_parser.specs.Inner.Queries.{call_at, counts_rows, maybe_name, direction_at, item_at, from_at, nulls_at, order_add, order_at, strength_at, lock_at, select_at};
-ghost use Rattle.sql_parser.specs.Queries.{alias_at, policy_at};
+ghost use Rattle.sql_parser.specs.Changes.{alias_at};
+ghost use Rattle.sql_parser.specs.Queries.{policy_at};
 
 use crate::change::{filter, unboxed};
 use crate::list::{List, items};
@@ -48,8 +49,8 @@ fn agg_kind(tok: Tok) -> Option<AggKind>
     }
 }
 
-// The tokens behind a `*`, if it stands next.
-fn after_star<'t, 'a>(tokens: Tokens<'t, 'a>) -> Option<Tokens<'t, 'a>>
+/// The tokens behind a `*`, if it stands next.
+pub fn after_star<'t, 'a>(tokens: Tokens<'t, 'a>) -> Option<Tokens<'t, 'a>>
     ensures exact { option_map (λ rest. tok_views rest.now) result ≡ after (is_sign signs.Star) (tok_views tokens.now) }
     ensures shorter { IfSome result (λ rest. length rest.now < length tokens.now) }
 {
@@ -103,9 +104,9 @@ fn maybe_name<'t, 'a>(tokens: Tokens<'t, 'a>) -> (Option<Name<'a>>, Tokens<'t, '
     }
 }
 
-// The name given to an item, with or without AS.
-#[tactic(auto, unfolding(crate::specs::Queries::alias_at))]
-fn alias<'t, 'a>(
+/// The name given to an item, with or without AS.
+#[tactic(auto, unfolding(crate::specs::Changes::alias_at))]
+pub fn alias<'t, 'a>(
     parser: Parser,
     tokens: Tokens<'t, 'a>,
 ) -> Result<(Option<Name<'a>>, Tokens<'t, 'a>), SqlFault>

@@ -7,7 +7,7 @@ use std::alloc::Global;
 use std::process::Abort;
 
 // Statements of a session.
-const STATEMENTS: [(&str, &str); 38] = [
+const STATEMENTS: [(&str, &str); 41] = [
     ("", " ;; /* a /* b */ */ -- c"),
     ("begin Work", "BEGIN"),
     ("BEGIN TRANSACTION", "BEGIN"),
@@ -45,6 +45,15 @@ const STATEMENTS: [(&str, &str); 38] = [
         "UPDATE t SET v = 1, w = v WHERE v IS NULL",
         "UPDATE t SET v = 1, w = (v) WHERE (v IS NULL)",
     ),
+    (
+        "insert into t values (1) on conflict do nothing returning a + 1 b, *;",
+        "INSERT INTO \"t\" VALUES (1) ON CONFLICT DO NOTHING RETURNING (a + 1) AS \"b\", *",
+    ),
+    (
+        "UPDATE t SET v = 1 WHERE a = 1 RETURNING v, v + 1 w",
+        "UPDATE t SET v = 1 WHERE (a = 1) RETURNING (v), (v + 1) AS w",
+    ),
+    ("delete from t returning A", "DELETE FROM t RETURNING \"a\""),
     (
         "DELETE FROM t WHERE a = 1 OR b",
         "DELETE FROM t WHERE ((a = 1) OR b)",
@@ -164,7 +173,7 @@ const TABLES: [(&str, &str); 9] = [
 ];
 
 // Texts that are read, and as blocks that differ.
-const UNLIKE: [(&str, &str); 22] = [
+const UNLIKE: [(&str, &str); 27] = [
     ("SELECT a FROM t; COMMIT", "SELECT a FROM t; ROLLBACK"),
     ("SELECT a FROM t; COMMIT", "SELECT a FROM t"),
     ("BEGIN", "BEGIN ISOLATION LEVEL READ COMMITTED"),
@@ -202,6 +211,23 @@ const UNLIKE: [(&str, &str); 22] = [
     ("DROP TABLE t", "DROP TABLE IF EXISTS t"),
     ("INSERT INTO t VALUES (1)", "INSERT INTO t (a) VALUES (1)"),
     ("DELETE FROM t", "DELETE FROM t WHERE TRUE"),
+    (
+        "INSERT INTO t VALUES (1)",
+        "INSERT INTO t VALUES (1) ON CONFLICT DO NOTHING",
+    ),
+    (
+        "INSERT INTO t VALUES (1)",
+        "INSERT INTO t VALUES (1) RETURNING a",
+    ),
+    ("UPDATE t SET v = 1", "UPDATE t SET v = 1 RETURNING *"),
+    (
+        "DELETE FROM t RETURNING a",
+        "DELETE FROM t RETURNING a AS b",
+    ),
+    (
+        "DELETE FROM t RETURNING a, b",
+        "DELETE FROM t RETURNING b, a",
+    ),
 ];
 
 fn all_are(rt: &impl Abort, alloc: Global, role: Role, same: bool, rows: &[(&str, &str)]) {

@@ -16,6 +16,8 @@ mod memory;
 #[cfg(test)]
 mod refused;
 #[cfg(test)]
+mod returned;
+#[cfg(test)]
 mod sizes;
 #[cfg(test)]
 mod trees;

@@ -9,8 +9,8 @@ use sql_trees::{SqlFault, classified};
 
 // A block with each kind of statement.
 const ALL_KINDS: &str = "BEGIN ISOLATION LEVEL REPEATABLE READ; SET deadlock_timeout = '1s'; \
-    CREATE TABLE t (a INT PRIMARY KEY, b TEXT NOT NULL, UNIQUE (b, a)); INSERT INTO t (a, b) VALUES (1, 'x'), (2, 'y' || 'z'); \
-    UPDATE t SET a = a + 1, b = 'u' WHERE a IN (1, 2) AND NOT b IS NULL; DELETE FROM t WHERE a BETWEEN 1 AND 2; \
+    CREATE TABLE t (a INT PRIMARY KEY, b TEXT NOT NULL, UNIQUE (b, a)); INSERT INTO t (a, b) VALUES (1, 'x'), (2, 'y' || 'z') ON CONFLICT DO NOTHING; \
+    UPDATE t SET a = a + 1, b = 'u' WHERE a IN (1, 2) AND NOT b IS NULL RETURNING *, a + 1; DELETE FROM t WHERE a BETWEEN 1 AND 2 RETURNING b c; \
     SELECT a AS c, -b FROM t WHERE a = 1 ORDER BY a DESC NULLS LAST, b FOR UPDATE; SELECT count(*), sum(a) FROM t; \
     DROP TABLE IF EXISTS t, u; COMMIT";
 

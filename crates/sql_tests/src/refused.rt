@@ -88,7 +88,7 @@ const TABLES: [(&str, &str); 36] = [
 ];
 
 // What a session's block may not be.
-const STATEMENTS: [(&str, &str); 99] = [
+const STATEMENTS: [(&str, &str); 97] = [
     ("BEGIN foo", "Q1 Syntax at byte 6"),
     ("BEGIN TRANSACTION WORK", "Q1 Syntax at byte 18"),
     ("BEGIN NOT DEFERRABLE", "Q1 Syntax at byte 6"),
@@ -134,14 +134,6 @@ const STATEMENTS: [(&str, &str); 99] = [
     ("INSERT INTO t VALUES (1, 2), (1)", "Q1 Syntax at byte 29"),
     ("INSERT INTO t (a, b) VALUES (1)", "Q1 Syntax at byte 28"),
     ("INSERT INTO t VALUES (1), (2, 3", "Q1 Syntax at byte 31"),
-    (
-        "INSERT INTO t VALUES (1) ON CONFLICT DO NOTHING",
-        "Q2 LeftOut at byte 25",
-    ),
-    (
-        "INSERT INTO t VALUES (1) RETURNING a",
-        "Q2 LeftOut at byte 25",
-    ),
     ("UPDATE t u SET v = 1", "Q1 Syntax at byte 9"),
     ("UPDATE t SET (v, w) = (1, 2)", "Q1 Syntax at byte 13"),
     ("UPDATE t SET v + 1", "Q1 Syntax at byte 15"),
@@ -239,6 +231,128 @@ const LOCKS: [(&str, &str); 18] = [
     ("SELECT 1 FOR KEY SHARE NOWAIT", "Q2 LeftOut at byte 0"),
 ];
 
+// ON CONFLICT and RETURNING that lack a word, have one too many, or one that is left out.
+const CHANGES: [(&str, &str); 37] = [
+    ("INSERT INTO t VALUES (1) ON", "Q1 Syntax at byte 27"),
+    (
+        "INSERT INTO t VALUES (1) ON DO NOTHING",
+        "Q1 Syntax at byte 28",
+    ),
+    (
+        "INSERT INTO t VALUES (1) ON CONFLICT",
+        "Q1 Syntax at byte 36",
+    ),
+    (
+        "INSERT INTO t VALUES (1) ON CONFLICT NOTHING",
+        "Q1 Syntax at byte 37",
+    ),
+    (
+        "INSERT INTO t VALUES (1) ON CONFLICT (a) DO NOTHING",
+        "Q2 LeftOut at byte 37",
+    ),
+    (
+        "INSERT INTO t VALUES (1) ON CONFLICT ()",
+        "Q2 LeftOut at byte 37",
+    ),
+    (
+        "INSERT INTO t VALUES (1) ON CONFLICT ON CONSTRAINT c DO NOTHING",
+        "Q2 LeftOut at byte 37",
+    ),
+    (
+        "INSERT INTO t VALUES (1) ON CONFLICT DO",
+        "Q1 Syntax at byte 39",
+    ),
+    (
+        "INSERT INTO t VALUES (1) ON CONFLICT DO UPDATE SET a = 2",
+        "Q2 LeftOut at byte 40",
+    ),
+    (
+        "INSERT INTO t VALUES (1) ON CONFLICT DO \"nothing\"",
+        "Q1 Syntax at byte 40",
+    ),
+    (
+        "INSERT INTO t VALUES (1) ON CONFLICT DO NOTHING (a)",
+        "Q1 Syntax at byte 48",
+    ),
+    (
+        "INSERT INTO t VALUES (1) ON CONFLICT DO NOTHING ON CONFLICT DO NOTHING",
+        "Q2 LeftOut at byte 48",
+    ),
+    (
+        "INSERT INTO t VALUES (1) ON CONFLICT DO NOTHING WHERE TRUE",
+        "Q1 Syntax at byte 48",
+    ),
+    (
+        "INSERT INTO t VALUES (1) CONFLICT DO NOTHING",
+        "Q1 Syntax at byte 25",
+    ),
+    (
+        "INSERT INTO t ON CONFLICT DO NOTHING",
+        "Q2 LeftOut at byte 14",
+    ),
+    (
+        "INSERT INTO t VALUES (1), ON CONFLICT DO NOTHING",
+        "Q2 LeftOut at byte 26",
+    ),
+    (
+        "UPDATE t SET a = 1 ON CONFLICT DO NOTHING",
+        "Q2 LeftOut at byte 19",
+    ),
+    (
+        "DELETE FROM t ON CONFLICT DO NOTHING",
+        "Q2 LeftOut at byte 14",
+    ),
+    ("SELECT a FROM t ON a = 1", "Q2 LeftOut at byte 16"),
+    ("INSERT INTO t VALUES (1) RETURNING", "Q1 Syntax at byte 34"),
+    (
+        "INSERT INTO t VALUES (1) RETURNING a,",
+        "Q1 Syntax at byte 37",
+    ),
+    (
+        "INSERT INTO t VALUES (1) RETURNING a AS",
+        "Q1 Syntax at byte 39",
+    ),
+    (
+        "INSERT INTO t VALUES (1) RETURNING * a",
+        "Q1 Syntax at byte 37",
+    ),
+    (
+        "INSERT INTO t VALUES (1) RETURNING a ON CONFLICT DO NOTHING",
+        "Q2 LeftOut at byte 37",
+    ),
+    (
+        "INSERT INTO t VALUES (1) RETURNING count(*)",
+        "Q2 LeftOut at byte 35",
+    ),
+    (
+        "UPDATE t SET a = 1 RETURNING a, 1 + sum(a)",
+        "Q2 LeftOut at byte 36",
+    ),
+    (
+        "DELETE FROM t RETURNING max(a) AS m",
+        "Q2 LeftOut at byte 24",
+    ),
+    ("UPDATE t RETURNING a", "Q2 LeftOut at byte 9"),
+    ("UPDATE t SET RETURNING a", "Q2 LeftOut at byte 13"),
+    ("UPDATE t SET a = RETURNING a", "Q2 LeftOut at byte 17"),
+    (
+        "UPDATE t SET a = 1 RETURNING a WHERE a = 1",
+        "Q1 Syntax at byte 31",
+    ),
+    ("DELETE FROM t WHERE RETURNING a", "Q2 LeftOut at byte 20"),
+    ("DELETE FROM t RETURNING", "Q1 Syntax at byte 23"),
+    (
+        "DELETE FROM t RETURNING a RETURNING b",
+        "Q2 LeftOut at byte 26",
+    ),
+    ("DELETE FROM t RETURNING a.b", "Q2 LeftOut at byte 25"),
+    ("SELECT a FROM t RETURNING a", "Q2 LeftOut at byte 16"),
+    (
+        "SELECT a FROM t WHERE a = 1 ORDER BY a RETURNING a",
+        "Q2 LeftOut at byte 39",
+    ),
+];
+
 fn all_refused(rt: &impl Abort, alloc: Global, role: Role, rows: &[(&str, &str)]) {
     for (text, fault) in rows {
         holds(rt, is_refused(alloc, role, *text, *fault), *text);
@@ -250,4 +364,5 @@ fn faults_and_their_places(rt: HostRuntime) {
     all_refused(&rt, rt.alloc(), Role::Main, TABLES.as_slice());
     all_refused(&rt, rt.alloc(), Role::Session, STATEMENTS.as_slice());
     all_refused(&rt, rt.alloc(), Role::Session, LOCKS.as_slice());
+    all_refused(&rt, rt.alloc(), Role::Session, CHANGES.as_slice());
 }

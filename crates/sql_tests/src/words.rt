@@ -72,8 +72,10 @@ const NAMES_LEFT_OUT: [&str; 18] = [
     "SEQUENCE",
 ];
 
-// Words of a lock: names, which elsewhere stand for no part that is left out.
-const LOCK_WORDS: [&str; 6] = ["NO", "KEY", "SHARE", "NOWAIT", "SKIP", "LOCKED"];
+// Words of a lock and of ON CONFLICT: names, which elsewhere stand for no part that is left out.
+const NAMES: [&str; 8] = [
+    "NO", "KEY", "SHARE", "NOWAIT", "SKIP", "LOCKED", "CONFLICT", "NOTHING",
+];
 
 // Words that are no names and stand for no part that is left out, but FROM.
 const NO_NAMES: [&str; 21] = [
@@ -125,7 +127,7 @@ fn words_that_are_no_alias(rt: HostRuntime) {
     all_refused(&rt, rt.alloc(), front, LEFT_OUT.as_slice(), fault);
     all_refused(&rt, rt.alloc(), front, NAMES_LEFT_OUT.as_slice(), fault);
     let fault = "Q1 Syntax at byte 16";
-    all_refused(&rt, rt.alloc(), front, LOCK_WORDS.as_slice(), fault);
+    all_refused(&rt, rt.alloc(), front, NAMES.as_slice(), fault);
 }
 
 #[test]
@@ -156,7 +158,7 @@ fn words_that_are_names(rt: HostRuntime) {
         NAMES_LEFT_OUT.as_slice(),
         "",
     );
-    all_read(&rt, rt.alloc(), "DROP TABLE ", LOCK_WORDS.as_slice(), "");
+    all_read(&rt, rt.alloc(), "DROP TABLE ", NAMES.as_slice(), "");
     all_read(&rt, rt.alloc(), "DROP TABLE \"", LEFT_OUT.as_slice(), "\"");
     all_read(&rt, rt.alloc(), "DROP TABLE \"", NO_NAMES.as_slice(), "\"");
 }

@@ -17,12 +17,11 @@ use Rattle.sql_blocks.specs.declared.block.Role.{Role}
 use Rattle.sql_blocks.specs.Parts.{is_session}
 use Rattle.sql_parser.specs.Grammar.{is_ddl}
 use Rattle.sql_parser.specs.Transactions.{is_work}
-use Rattle.sql_parser.specs.Changes.{delete_at}
 use Rattle.sql_parser.specs.Inner.Parts.{past}
 use Rattle.sql_parser.specs.Inner.Transactions.{begin_at, start_at, set_at}
 use Rattle.sql_parser.specs.Inner.Tables.{create_at}
 use Rattle.sql_parser.specs.Tables.{drop_at}
-use Rattle.sql_parser.specs.Inner.Changes.{insert_at, update_at}
+use Rattle.sql_parser.specs.Inner.Changes.{delete_at, insert_at, update_at}
 use Rattle.sql_parser.specs.Inner.Queries.{select_at}
 
 module _ (last : ℕ) where

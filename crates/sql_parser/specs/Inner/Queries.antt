@@ -18,8 +18,8 @@ use Rattle.sql_expressions.specs.Readers.{after, expect, is_sign, is_word, Reade
 use Rattle.sql_expressions.specs.Reading.{agg_kind}
 use Rattle.sql_blocks.specs.Parts.{is_allowed}
 use Rattle.sql_parser.specs.Readers.{maybe, tree_at}
-use Rattle.sql_parser.specs.Changes.{filter_at}
-use Rattle.sql_parser.specs.Queries.{alias_at, policy_at}
+use Rattle.sql_parser.specs.Changes.{alias_at, filter_at}
+use Rattle.sql_parser.specs.Queries.{policy_at}
 
 -- an aggregate's name with an open parenthesis behind it, and the tokens behind that
 abbrev pub call_at : Tokens → Option (AggKind × Tokens)
