@@ -52,12 +52,12 @@ abbrev pub x : List ℕ
 x = 120 ∷ []
 
 abbrev pub delete_from_t : StmtTree
-delete_from_t = Deletes (record { table = t; filter = None })
+delete_from_t = Deletes (record { table = t; filter = None; returning = None })
 
 abbrev pub waited_blocks : Blocks
 waited_blocks =
     (Create (record { name = t; columns = record { name = x; kind = Integer; not_null = false } ∷ []; keys = [] })
-    ∷ Inserts (record { table = t; columns = None; rows = (Number false 1 ∷ []) ∷ [] }) ∷ [])
+    ∷ Inserts (record { table = t; columns = None; rows = (Number false 1 ∷ []) ∷ []; do_nothing = false; returning = None }) ∷ [])
     ∷ (Begin None ∷ delete_from_t ∷ [])
     ∷ (Commit ∷ [])
     ∷ (delete_from_t ∷ [])
