@@ -35,7 +35,6 @@ use Rattle.update_recheck.specs.Outcome.{Version, Outcome, outcome, row_blockers
 use Rattle.update_recheck.specs.Outcome.Version.{Same, Gone, Newer}
 use Rattle.update_recheck.specs.Outcome.Outcome.{Takes, Skips, Waits, Deadlocks, NotFree, Serializes, Faults}
 use Rattle.session_machine.specs.Tables.{Database, Catalog, Table}
-use Rattle.session_machine.specs.Walks as walk
 use Rattle.session_machine.specs.Walks.{Walk}
 use Rattle.session_machine.specs.Waits.{waits_in}
 use Rattle.session_machine.specs.Rows.{Work, Meets, PassesOver, columns_in, cols_in, values_of, written}

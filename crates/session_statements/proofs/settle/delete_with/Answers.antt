@@ -1,4 +1,4 @@
-use Rattle.std.proofs.Common.{◌≡◌, ◌∙◌, refl, ap, sym, List}
+use Rattle.std.proofs.Common.{◌∙◌, refl, ap, sym, List}
 use Rattle.std.specs.Prelude.{None}
 use Rattle.sql_trees.specs.Statements.{delete_of}
 use Rattle.sql_values.specs.declared.value.Value.{Value}

@@ -1,4 +1,4 @@
-use Rattle.std.proofs.Common.{◌≡◌, ◌∙◌, refl, ap, sym}
+use Rattle.std.proofs.Common.{◌∙◌, refl, ap, sym}
 use Rattle.std.specs.Prelude.{Option, Some, option_map}
 use Rattle.session_machine.specs.Tables.{Database}
 use Rattle.session_machine.specs.Rows.{written}
