@@ -20,7 +20,7 @@ use Rattle.sql_expressions.proofs.Same.{is_fault, expr_same}
 use Rattle.sql_parser.specs.Changes.{alias_at, conflict_at, returned_at}
 use Rattle.sql_parser.specs.Inner.Changes.{returning_at}
 use Rattle.sql_parser.specs.Inner.Queries.{maybe_name}
-use Rattle.sql_parser.specs.Grammar.{Is, AliasIs, no_alias, as_alias, bare_alias, ConflictIs, fails, does_nothing, AddsReturned, returns_all, returns_value, ReturningIs, returns_nothing, returns, Shallow}
+use Rattle.sql_parser.specs.Grammar.{AliasIs, no_alias, as_alias, bare_alias, ConflictIs, fails, does_nothing, AddsReturned, returns_all, returns_value, ReturningIs, returns_nothing, returns, Shallow}
 use Rattle.sql_parser.proofs.StmtLocals.{word_is}
 use Rattle.sql_parser.proofs.Completes.{not_key, Parted, part_ends, no_name_next, no_part_word, comma_is_parted, tree_reads, list_reads}
 

@@ -1,5 +1,5 @@
 -- To be believed. SELECT (PostgreSQL manual: SELECT).
-use Rattle.std.specs.Prelude.{ℕ, true, false, List, [], ◌∷◌, Option, Some, None, if◌then◌else◌}
+use Rattle.std.specs.Prelude.{ℕ, true, false, [], ◌∷◌, Some, None, if◌then◌else◌}
 use Rattle.iso_lexer.specs.declared.sql_token.SqlSign.TheVariants as signs
 use Rattle.sql_trees.specs.declared.fault.SqlFault.TheVariants.{LeftOut}
 use Rattle.sql_trees.specs.declared.word.Word.TheVariants as words
@@ -12,7 +12,6 @@ use Rattle.sql_trees.specs.declared.stmt.Policy.{Policy}
 use Rattle.sql_trees.specs.declared.stmt.Policy.TheVariants as policies
 use Rattle.iso_lexer.specs.Bytes.{row_of}
 use Rattle.sql_trees.specs.Statements.{StmtTree, ItemTree, All, Value, Aggregate, OrderTree, SelectTree, Selects}
-use Rattle.sql_trees.specs.Tokens.{named}
 use Rattle.sql_trees.specs.Trees.{AggTree, CountRows, Of}
 use Rattle.sql_expressions.specs.Readers.{is_sign, is_word, Reader, gives, made, either, by_first, keyword, closed, name_at, ◌>>=◌, ◌>>◌}
 use Rattle.sql_expressions.specs.Reading.{agg_kind}
