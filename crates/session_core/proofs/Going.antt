@@ -1,5 +1,5 @@
 -- What an event leaves of a machine and its history, events that it doesn't refuse, and tables that it shows.
-use Rattle.std.proofs.Common.{◌≡◌, ℕ, Bool, true, false, List, [], ◌∷◌, ◌++◌, length, refl, ap, sym, subst}
+use Rattle.std.proofs.Common.{◌≡◌, ◌∙◌, ℕ, Bool, true, false, List, [], ◌∷◌, ◌++◌, length, refl, ap, sym, subst}
 use Rattle.std.specs.Prelude.{Option, Some, None, IfSome, Result, Ok, Err, slice_get, if◌then◌else◌}
 use Rattle.sql_values.specs.declared.value.Value.{Value}
 use Rattle.session_machine.specs.declared.session.Session.{Session}
