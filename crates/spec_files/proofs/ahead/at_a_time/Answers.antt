@@ -16,4 +16,4 @@ few_threads sessions each fit most each_is fit_is most_is (inl several) =
 pub returns-clause-threads : goal.returns-clause-threads
 returns-clause-threads c =
     let each = c.saturating_add-each.result in
-    few_threads c.args.sessions each (40 / each) c.clamp.result c.saturating_add-each.ensures refl c.clamp.ensures.value (cases_lt 1 (40 / each))
+    few_threads c.args.sessions each (40 / each) c.clamp.result c.saturating_add-each.ensures refl c.clamp.ensures (cases_lt 1 (40 / each))
