@@ -48,10 +48,10 @@ left blocks count mode m new items event answer refusal spent keeps h is =
     let same = answered_err m new r refusal (as_known m new r answer (Err refusal) h is) in
     (keeps.0, λ fresh. subst (Keeps blocks count mode items) (sym same.1) (keeps.1 fresh))
 
--- to a session that is there each table is shown, or that there is none
-pub shows : (m : Machine) (session : ℕ) (name : List ℕ) (s : Session) → slice_get m.sessions session ≡ Some s
-    → (rows : Option (List (List Value))) × (visible m session name ≡ Ok rows)
-shows m session name s e = (visible_to m.db s name, ap (visible_for m name) e)
+-- what is shown to a session that is there
+pub shows : (m : Machine) (session : ℕ) (name : List ℕ) (s : Session) (rows : List (List Value)) → slice_get m.sessions session ≡ Some s → visible_to m.db s name ≡ Some rows
+    → visible m session name ≡ Ok (Some rows)
+shows m session name s rows e is = ap (visible_for m name) e ∙ ap (λ (o : Option (List (List Value))). Ok o) is
 
 -- an event that the machine of an engine doesn't refuse is due, where the engine isn't spent
 pub due : (blocks : Blocks) (count : ℕ) (mode : Mode) (m : Machine) (history : List HistItem) (spent : Bool) (event : Event) (e : Engine)

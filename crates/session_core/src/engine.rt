@@ -1,5 +1,5 @@
 //! The engine: the machine over a store, with its history.
-ghost use Rattle.std.specs.Prelude.{◌≡◌, ◌≢◌, ◌↔◌, IsTrue, ◌+◌, ◌<◌, ◌≤◌, ◌^◌, ℕ, List, [], ◌∷◌, ◌++◌, Option, Some, None, IfOk, IfErr, IfSome, OnOk, OnErr, IsErrOf, Result, Ok, Err, length, option_map, slice_get};
+ghost use Rattle.std.specs.Prelude.{◌≡◌, ◌≢◌, ◌↔◌, IsTrue, ◌+◌, ◌<◌, ◌≤◌, ◌^◌, ℕ, List, [], ◌∷◌, ◌++◌, Some, None, IfOk, IfErr, IfSome, OnOk, OnErr, IsErrOf, Result, Ok, Err, length, option_map, slice_get};
 ghost use Rattle.std.specs.Global.{Vec as VecFacts};
 ghost use Rattle.sql_blocks.specs.Blocks.{blocks_of};
 ghost use Rattle.sql_values.specs.declared.value.Value.{Value as SqlValue};
@@ -248,11 +248,11 @@ impl<'a, 't, V: Versions> EngineState<'a, 't, V> {
 
     /// What a SELECT of the session that begins now would show of the table: in the middle of a statement also what
     /// that has written so far; for a session without a transaction, or with one that has failed, what is committed.
-    /// `None` stands for no such table.
+    /// `None` stands for no such table, and takes no memory.
     pub fn visible(&self, session: u32, table: &str) -> Result<Option<Vec<Row>>, EngineFault>
         ensures ok { IfOk result (λ rows. visible_in self.now.machine session table.now ≡ Ok (option_map (λ (v : VecFacts (List SqlValue)). v.items) rows)) }
         ensures refused { IfErr result (λ fault. fault ≢ EngineFault.Memory → visible_in self.now.machine session table.now ≡ Err fault) }
-        ensures memory { IsErrOf result EngineFault.Memory → (rows : Option (List (List SqlValue))) × (visible_in self.now.machine session table.now ≡ Ok rows) }
+        ensures memory { IsErrOf result EngineFault.Memory → (rows : List (List SqlValue)) × (visible_in self.now.machine session table.now ≡ Ok (Some rows)) }
     {
         if self.spent {
             return Err(EngineFault::Spent);

@@ -1,5 +1,5 @@
 //! The machine over a store.
-ghost use Rattle.std.specs.Prelude.{◌≡◌, ◌+◌, ◌<◌, ◌≤◌, ◌^◌, List, IfOk, IfErr, OnErr, Option, Ok, Err, option_map, length, slice_get};
+ghost use Rattle.std.specs.Prelude.{◌≡◌, ◌+◌, ◌<◌, ◌≤◌, ◌^◌, List, IfOk, IfErr, OnErr, Ok, Err, Some, option_map, length, slice_get};
 ghost use Rattle.std.specs.Global.{Vec as VecFacts};
 ghost use Rattle.sql_blocks.specs.Blocks.{blocks_of};
 ghost use Rattle.sql_values.specs.declared.value.Value.{Value as SqlValue};
@@ -88,7 +88,7 @@ impl<'a, 't, V: Versions> Live<'a, 't, V> {
         self.sessions.get(session as usize)
     }
 
-    /// What a SELECT of the session that begins now would show of the table.
+    /// What a SELECT of the session that begins now would show of the table: where there is none, that takes no memory.
     pub fn visible(
         &self,
         session: u32,
@@ -98,7 +98,7 @@ impl<'a, 't, V: Versions> Live<'a, 't, V> {
         requires room { self.now.events + 1 < 2 ^ 64 }
         ensures ok { IfOk result (λ answer. IfOk answer (λ rows. visible self.now session table.now ≡ Ok (option_map (λ (v : VecFacts (List SqlValue)). v.items) rows))) }
         ensures refused { IfOk result (λ answer. IfErr answer (λ refusal. visible self.now session table.now ≡ Err refusal)) }
-        ensures memory { OnErr result ((rows : Option (List (List SqlValue))) × (visible self.now session table.now ≡ Ok rows)) }
+        ensures memory { OnErr result ((rows : List (List SqlValue)) × (visible self.now session table.now ≡ Ok (Some rows))) }
     {
         let Some(current) = self.session_at(session) else {
             return Ok(Err(Refusal::NoSession));
