@@ -2,7 +2,7 @@
 
 use crate::asked::{block_of, holds};
 use sql_parser::Role;
-use sql_trees::{Lock, Policy, Select, Stmt, Strength};
+use sql_trees::{Lock, Policy, Stmt, Strength};
 use std::alloc::Global;
 
 // SELECTs of a table by a condition, with one sort key, and what they lock their rows with.
@@ -69,22 +69,27 @@ const LOCKS: [(&str, Strength, Policy); 12] = [
     ),
 ];
 
-// Whether a SELECT has a table, a condition, one sort key and this lock.
-fn is_locked(select: &Select<'_>, lock: Lock) -> bool {
-    select.items.len() == 1
-        && select.table.is_some()
-        && select.filter.is_some()
-        && select.order.len() == 1
-        && select.lock == Some(lock)
+// Whether a SELECT of one item has a table, a condition, one sort key and this lock, if any.
+fn has_lock(stmt: &Stmt<'_>, lock: Option<Lock>) -> bool {
+    match stmt {
+        Stmt::Select(select) => {
+            select.items.len() == 1
+                && select.table.is_some()
+                && select.filter.is_some()
+                && select.order.len() == 1
+                && select.lock == lock
+        }
+        _ => false,
+    }
 }
 
 // Whether the text is one such SELECT.
-fn is_read_with(alloc: Global, text: &str, lock: Lock) -> bool {
+fn is_read_with(alloc: Global, text: &str, lock: Option<Lock>) -> bool {
     let Ok(block) = block_of(alloc, Role::Session, text) else {
         return false;
     };
     match block.stmts() {
-        [Stmt::Select(select)] => is_locked(select, lock),
+        [stmt] => has_lock(stmt, lock),
         _ => false,
     }
 }
@@ -92,27 +97,9 @@ fn is_read_with(alloc: Global, text: &str, lock: Lock) -> bool {
 #[test]
 fn strengths_and_policies(rt: HostRuntime) {
     for (text, strength, policy) in LOCKS {
-        holds(
-            &rt,
-            is_read_with(rt.alloc(), text, Lock { strength, policy }),
-            text,
-        );
+        let lock = Lock { strength, policy };
+        holds(&rt, is_read_with(rt.alloc(), text, Some(lock)), text);
     }
-}
-
-// Whether a SELECT without FOR locks nothing.
-fn locks_nothing(alloc: Global, text: &str) -> bool {
-    let Ok(block) = block_of(alloc, Role::Session, text) else {
-        return false;
-    };
-    match block.stmts() {
-        [Stmt::Select(select)] => select.lock.is_none(),
-        _ => false,
-    }
-}
-
-#[test]
-fn no_lock_without_for(rt: HostRuntime) {
-    let text = "SELECT a nowait FROM t ORDER BY share";
-    holds(&rt, locks_nothing(rt.alloc(), text), text);
+    let text = "SELECT share nowait FROM no WHERE skip ORDER BY key";
+    holds(&rt, is_read_with(rt.alloc(), text, None), text);
 }
