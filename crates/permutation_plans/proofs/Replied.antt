@@ -4,7 +4,7 @@ use Rattle.std.specs.Prelude.{Option, Some, None, unwrap_or, slice_get, nat_lt, 
 use Rattle.std.specs.Option.{option_map_or}
 use Rattle.sql_trees.specs.declared.stmt.Level.{Level}
 use Rattle.sql_trees.specs.declared.stmt.Level.TheVariants.{ReadCommitted}
-use Rattle.sql_trees.specs.Statements.{ColumnTree, StmtTree, Begin, Commit, Rollback, SetTransaction, SetDeadlockTimeout, Create, DropTables, Inserts, Updates, Deletes, Selects}
+use Rattle.sql_trees.specs.Statements.{ColumnTree, ItemTree, StmtTree, Begin, Commit, Rollback, SetTransaction, SetDeadlockTimeout, Create, DropTables, Inserts, Updates, Deletes, Selects}
 use Rattle.sql_values.specs.declared.value.Value.{Value}
 use Rattle.sql_values.specs.declared.fault.ValueFault.{ValueFault}
 use Rattle.query_results.specs.Results.{Results}
@@ -33,7 +33,7 @@ use Rattle.session_machine.specs.Views.{rows_shown}
 use Rattle.session_machine.specs.Statements.{Surroundings, Effect, fails, answers, turns, drop_tables, level_set}
 use Rattle.session_machine.specs.Walks.{Stop, Walk, Blocked, Fails}
 use Rattle.session_machine.specs.Rows.{Work, columns_in, walk_of}
-use Rattle.session_machine.specs.Running.{fault_in, leads_to, at_once, begin_at, run_in, run_stmt}
+use Rattle.session_machine.specs.Running.{fault_in, items_answered, leads_to, at_once, begin_at, run_in, run_stmt}
 use Rattle.session_machine.specs.Machine.{Machine, Blocks, Next, Run, next, next_for, opening, stmts_of, after_stmt, closed_at_end, is_failed, leaves, session_of}
 use Rattle.session_machine.specs.Inner.Steps.{around as found_around, step_from_place, step_stmt}
 use Rattle.session_machine.specs.Engine.{IsLegal}
@@ -65,21 +65,12 @@ either false x y h k = k
 
 leading : (db : Database) (w : Work) (stmt : StmtTree) (walk : Walk) → StaysIfWaiting (leads_to db w stmt walk)
 leading db w stmt walk = by walk.stop where
-  ends : (s : StmtTree) → (let o : Outcome = elim s [ Selects x ↦ Rows (record { titles = titles_of (columns_in db w) x.items; rows = walk.rows }) | other ↦ Done ] in o ≡ Waits) → ⊥
-  ends (Selects x) = rows_not _
-  ends (Inserts i) = done_not
-  ends (Updates u) = done_not
-  ends (Deletes d) = done_not
-  ends (Begin level) = done_not
-  ends Commit = done_not
-  ends Rollback = done_not
-  ends (SetTransaction level) = done_not
-  ends SetDeadlockTimeout = done_not
-  ends (Create c) = done_not
-  ends (DropTables d) = done_not
+  ends : (items : Option (List ItemTree)) → option_map_or (λ is. Rows (record { titles = titles_of (columns_in db w) is; rows = walk.rows })) items Done ≡ Waits → ⊥
+  ends None = done_not
+  ends (Some is) = rows_not _
 
   by : (o : Option Stop) → StaysIfWaiting (leads_to db w stmt (record walk { stop = o }))
-  by None h = absurd (ends stmt h)
+  by None h = absurd (ends (items_answered stmt) h)
   by (Some (Blocked r)) h = refl
   by (Some (Fails f)) h = absurd (failed_not f h)
 

@@ -351,7 +351,7 @@ fn entered_values_are_found(alloc: Global) -> Result<bool, AllocError> {
     index.enter(TABLE, made, writes, Some(entered))?;
     Ok(
         one_is(alloc, &store, &index, asks.0, 1, Wanted::Held(0, &[0]))?
-            && one_is(alloc, &store, &index, writes.0, 1, Wanted::Taken(0))?
+            && one_is(alloc, &store, &index, writes.0, 1, Wanted::Taken(0, 0))?
             && one_is(alloc, &store, &index, asks.0, 2, Wanted::Free)?,
     )
 }
