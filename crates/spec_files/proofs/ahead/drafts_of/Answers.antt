@@ -13,7 +13,7 @@ use Rattle.spec_files.proofs.ahead.drafts_of.Goals as goal
 pub side_by_side-requires-sync-F : goal.side_by_side-requires-sync-F
 side_by_side-requires-sync-F g c κs within =
     let F = Lts.arg-0-1 g.row.F g.row.R g.F.laws g.R.laws g.F.Fn-dict g.F.FnMut-dict g.F.FnOnce-dict g.R.Threads-dict g.R.Wait-dict g.F.Destruct-dict κs in
-    let fields : List RattleType = Lts.of-10 g.row.F g.row.R g.F.laws g.R.laws g.F.Fn-dict g.F.FnMut-dict g.F.FnOnce-dict g.R.Threads-dict g.R.Wait-dict g.F.Destruct-dict
+    let fields : List RattleType = Lts.of-12 g.row.F g.row.R g.F.laws g.R.laws g.F.Fn-dict g.F.FnMut-dict g.F.FnOnce-dict g.R.Threads-dict g.R.Wait-dict g.F.Destruct-dict
     (record { mir = named 8; lft = κs.1.1.1.1.1.1.1.1.0 }) (record { mir = named 9; lft = κs.1.1.1.1.1.1.1.1.1.0 }) (record { mir = named 10; lft = κs.1.1.1.1.1.1.1.1.1.1.0 }) in
     let all : AllSync fields = (search (sendable, crosses) depth 60, (search (sendable, crosses, file_sync) depth 60, tt)) in
     let T = type_at (Lts.name-8 g.row.F g.row.R g.F.laws g.R.laws g.F.Fn-dict g.F.FnMut-dict g.F.FnOnce-dict g.R.Threads-dict g.R.Wait-dict g.F.Destruct-dict) fields in
