@@ -9,7 +9,7 @@ use crate::words::{
 use iso_lexer::Name;
 use session_queries::{
     AssignedColumns, columns_assigned, columns_set, new_values, passing_places, result_of,
-    row_values, taken_places, undefined_in_filter, undefined_in_select, undefined_in_update,
+    row_values, taken_places, undefined_in_delete, undefined_in_select, undefined_in_update,
     updated_values, wrong_position,
 };
 use sql_parser::{Block, Role};
@@ -135,7 +135,7 @@ fn is_updated(alloc: Global, update: &Update<'static>, at: At<'_>, words: &str) 
 fn is_deleted(alloc: Global, delete: &Delete<'static>, at: At<'_>, words: &str) -> Answer
     requires { All (λ row. length row.now ≡ length at.columns.now) at.rows.now }
 {
-    if let Some(name) = undefined_in_filter(at.columns, &delete.filter) {
+    if let Some(name) = undefined_in_delete(at.columns, delete) {
         return Err(ValueFault::NoColumn(name));
     }
     let mut rest = Some(words);
