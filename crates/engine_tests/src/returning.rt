@@ -7,7 +7,8 @@ const ONE_ROW: &str = "CREATE TABLE t (k int PRIMARY KEY, v int); INSERT INTO t 
 
 const TWO: &str = "BEGIN; INSERT INTO t VALUES (2, 20) RETURNING k";
 
-const FOUR_ROWS: &str = "INSERT INTO t VALUES (1, 0), (2, 0), (3, 0), (3, 1) ON CONFLICT DO NOTHING RETURNING k, v";
+const FOUR_ROWS: &str =
+    "INSERT INTO t VALUES (1, 0), (2, 0), (3, 0), (3, 1) ON CONFLICT DO NOTHING RETURNING k, v";
 
 const ADD: &str = "UPDATE t SET v = v + 1 WHERE k < 3 RETURNING *";
 
@@ -25,7 +26,8 @@ fn do_nothing_and_returning(rt: HostRuntime) {
     check(&rt, rt.alloc(), &DO_NOTHING_AND_RETURNING);
 }
 
-const REPEATABLE: &str = "BEGIN ISOLATION LEVEL REPEATABLE READ; UPDATE t SET v = v + 1 WHERE k < 3 RETURNING *";
+const REPEATABLE: &str =
+    "BEGIN ISOLATION LEVEL REPEATABLE READ; UPDATE t SET v = v + 1 WHERE k < 3 RETURNING *";
 
 const DO_NOTHING_AT_REPEATABLE_READ: [Line; 6] = [
     (0, ONE_ROW, ""),
@@ -33,7 +35,11 @@ const DO_NOTHING_AT_REPEATABLE_READ: [Line; 6] = [
     (1, TWO, " k | 2"),
     (1, "COMMIT", ""),
     (2, FOUR_ROWS, " not serializable"),
-    (2, "ROLLBACK; SELECT * FROM t ORDER BY k", " k v | 1 10 | 2 20"),
+    (
+        2,
+        "ROLLBACK; SELECT * FROM t ORDER BY k",
+        " k v | 1 10 | 2 20",
+    ),
 ];
 
 #[test]
@@ -58,7 +64,8 @@ fn do_nothing_on_own_row(rt: HostRuntime) {
     check(&rt, rt.alloc(), &DO_NOTHING_ON_OWN_ROW);
 }
 
-const TWO_KEYS: &str = "CREATE TABLE t (a int PRIMARY KEY, b int UNIQUE); INSERT INTO t VALUES (1, 10)";
+const TWO_KEYS: &str =
+    "CREATE TABLE t (a int PRIMARY KEY, b int UNIQUE); INSERT INTO t VALUES (1, 10)";
 
 /// The first key that isn't free decides: it is taken, or it is held, whatever the second one is.
 const HELD_AND_TAKEN: [Line; 9] = [
@@ -142,11 +149,7 @@ const EACH_KIND: [Line; 13] = [
         "INSERT INTO t VALUES (5, 50) RETURNING nope",
         " no column nope",
     ),
-    (
-        1,
-        "DELETE FROM t RETURNING a, nope",
-        " no column nope",
-    ),
+    (1, "DELETE FROM t RETURNING a, nope", " no column nope"),
     (
         1,
         "INSERT INTO t VALUES (5, 50), (6, 0) RETURNING 100 / b",

@@ -11,5 +11,5 @@ pub returns : goal.returns
 returns c = λ content table tx except asked columns h. (
   blockers_are content table tx asked columns ∙ null_blocked_by_none (has_committed content) (is_open content.fates) (writes content) table tx asked columns h,
   taken_is content table tx except asked columns
-  ∙ ap (λ o. option_and_then (λ row. newest_of content row tx) o) (taker_is content table tx except asked columns ∙ null_taken_by_none (has_committed content) (writes content) table tx except asked columns h),
+      ∙ ap (λ o. option_and_then (λ row. newest_of content row tx) o) (taker_is content table tx except asked columns ∙ null_taken_by_none (has_committed content) (writes content) table tx except asked columns h),
 )
