@@ -1,10 +1,10 @@
 #!/usr/bin/env bash
-# Looks that the programs and scripts around the isolation tester do what their pages say: timeline, regress, install, and calls through a symbolic
+# Looks that the programs and scripts around the isolation tester do what their pages say: timeline, outcomes, regress, install, and calls through a symbolic
 # link. It needs ./build all and Python, and takes some seconds. Each case has a line; the status is 0 where all are well.
 set -eu
 here=$(cd "$(dirname "$0")/.." && pwd)
 . "$here/tools/built.sh"
-for name in isolationtester timeline; do
+for name in isolationtester timeline outcomes; do
   is_built "$name" || { echo "bench/scripts.sh needs ./build all first" >&2; exit 2; }
 done
 exec python3 - "$here" << 'EOF'
@@ -114,6 +114,19 @@ def timeline():
     case("timeline --split: a picture for each permutation, none as high as all", ran.returncode == 0 and len(parts) == text.count(b"starting permutation") > 1 and all(is_xml(it) and height(it) < height(whole) for it in pictures))
 
 
+def outcomes():
+    folder = f"{here}/crates/outcome_examples/data"
+    spec, text = (open(f"{folder}/{it}", "rb").read() for it in ("specs/write_skew_at_repeatable_read.spec", "expected/write_skew_at_repeatable_read.out"))
+    ran = run([f"{here}/outcomes"], spec)
+    case("outcomes: an example prints its text, with status 0", ran.returncode == 0 and ran.stdout == text)
+    case("outcomes --serial: an outcome that no serial order has gives status 4", run([f"{here}/outcomes", "--serial"], spec).returncode == 4)
+    case("outcomes --limit: one permutation more ends the run, with status 1", b"R9 TooManyPermutations" in run([f"{here}/outcomes", "--limit", "69"], spec).stderr)
+    for words, status in ((["--help"], 0), (["--nothing"], 2), (["--limit"], 2)):
+        ran = run([f"{here}/outcomes", *words], b"")
+        said = ran.stderr if status else ran.stdout
+        case(f"{' '.join(['outcomes', *words])}: how to call it, with status {status}", ran.returncode == status and said.startswith(b"outcomes [--serial]"))
+
+
 def links():
     os.makedirs(f"{room}/bin")
     for name in ("isolationtester", "timeline", "regress"):
@@ -149,7 +162,7 @@ def suites():
 
 def installed():
     ran = run([f"{here}/install", f"{room}/prefix"])
-    files = ("bin/isolationtester", "bin/timeline", "share/man/man1/isolationtester.1", "share/man/man1/timeline.1", "share/bash-completion/completions/isolationtester")
+    files = ("bin/isolationtester", "bin/timeline", "bin/outcomes", "share/man/man1/isolationtester.1", "share/man/man1/timeline.1", "share/man/man1/outcomes.1", "share/bash-completion/completions/isolationtester")
     case("install: programs, manual pages and completions are under the prefix", ran.returncode == 0 and all(os.path.isfile(f"{room}/prefix/{it}") for it in files))
     spec, text = (open(f"{here}/examples/{it}", "rb").read() for it in ("specs/phantom.spec", "expected/phantom.out"))
     case("install: the installed program prints what is expected", run([f"{room}/prefix/bin/isolationtester"], spec).stdout == text)
@@ -158,6 +171,7 @@ def installed():
 
 try:
     timeline()
+    outcomes()
     links()
     suites()
     installed()

@@ -1,8 +1,13 @@
-# Completions of isolationtester and timeline for bash.
+# Completions of isolationtester, timeline and outcomes for bash.
 _isolationtester() {
   local word=${COMP_WORDS[COMP_CWORD]}
   if [[ ${COMP_WORDS[COMP_CWORD - 1]} == --limit ]]; then return; fi
   mapfile -t COMPREPLY < <(compgen -W "--list --free --limit --help" -- "$word")
+}
+_outcomes() {
+  local word=${COMP_WORDS[COMP_CWORD]}
+  if [[ ${COMP_WORDS[COMP_CWORD - 1]} == --limit ]]; then return; fi
+  mapfile -t COMPREPLY < <(compgen -W "--serial --limit --help" -- "$word")
 }
 _timeline() {
   local word=${COMP_WORDS[COMP_CWORD]}
@@ -13,4 +18,5 @@ _timeline() {
   fi
 }
 complete -F _isolationtester isolationtester
+complete -F _outcomes outcomes
 complete -o filenames -F _timeline timeline

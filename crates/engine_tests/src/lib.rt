@@ -32,6 +32,8 @@ mod sessions;
 #[cfg(test)]
 mod sizes;
 #[cfg(test)]
+mod stores;
+#[cfg(test)]
 mod strengths;
 #[cfg(test)]
 mod tables;

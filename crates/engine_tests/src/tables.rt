@@ -1,6 +1,7 @@
 //! Tables of tests: what is tried with an engine over the blocks of lines.
 
 use self::Given::{Launch, Leave, Step};
+use crate::stores::comes_to_the_same;
 use crate::trial::{Engine, Line, at_last, blocks, engine_of, holds, is_legal, run};
 use crate::words::{behind, behind_outcome, behind_rows, is_over, refusal_text};
 use session_core::replays;
@@ -297,6 +298,10 @@ fn goes_over(
     let mut engine = engine_of(alloc, blocks, run.sessions, run.mode)?;
     for of in run.tries {
         is_tried(rt, alloc, &mut engine, blocks, run, *of)?;
+    }
+    match comes_to_the_same(alloc, blocks, run.mode, &engine) {
+        Ok(so) => holds(rt, so, "over the store that links versions"),
+        Err(_) => return Err(AllocError),
     }
     Ok(())
 }

@@ -10,6 +10,8 @@ mod locks_and_waits;
 #[cfg(test)]
 mod memory;
 #[cfg(test)]
+mod random_orders;
+#[cfg(test)]
 mod sizes;
 #[cfg(test)]
 mod stores;

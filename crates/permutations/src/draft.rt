@@ -1,14 +1,16 @@
 //! A permutation's report in memory, before its turn comes.
 
-ghost use Rattle.std.specs.Prelude.{◌≡◌};
+ghost use Rattle.std.specs.Prelude.{◌≡◌, map, IfOk, IfSome};
 ghost use Rattle.sql_blocks.specs.Blocks.{blocks_of};
-ghost use Rattle.spec_parser.specs.Trees.{spec_view};
+ghost use Rattle.spec_parser.specs.Trees.{entry_view, spec_view};
 ghost use Rattle.spec_parser.specs.Stands.{Stands};
-ghost use Rattle.spec_files.specs.Drafts.{IsDraft};
+ghost use Rattle.spec_files.specs.Drafts.{AreDrafts, HasRoomFor, IsDraft};
+ghost use Rattle.permutations.specs.Inner.Runs.{RanAs};
 
-use crate::thread_run::run_permutation;
+use crate::thread_run::{runs_of, tell_permutation};
+use chain_store::ChainStore;
 use iso_lexer::Page;
-use session_threads::Gate;
+use session_threads::{Closed, Gate, ThreadFault};
 use spec_files::{Draft, RunFault};
 use spec_parser::{Entry, Spec};
 use sql_blocks::Block;
@@ -16,24 +18,22 @@ use std::alloc::Global;
 use std::sync::Wait;
 use std::thread::Threads;
 
-/// Runs a permutation and writes its report in memory, where a page fails as memory is refused.
-pub fn draft_of<G: Gate, R: Threads + Wait + Sync>(
-    rt: &R,
+/// The report of a run in memory, where a page fails as memory is refused.
+fn draft_of(
     alloc: Global,
     spec: &Spec<'_>,
     blocks: &[Block<'_>],
     entries: Vec<Entry>,
-    gate: &G,
+    run: Option<Result<Closed<'_, '_, ChainStore>, ThreadFault>>,
 ) -> Draft
-    requires { Stands (spec_view spec.now) }
+    requires stands { Stands (spec_view spec.now) }
+    requires ran { IfSome run (λ run. IfOk run (RanAs (spec_view spec.now) (blocks_of blocks.now) (map entry_view entries.items))) }
     ensures draft { IsDraft (spec_view spec.now) (blocks_of blocks.now) result }
     ensures entries { result.entries ≡ entries }
 {
     let mut text = Page::new(alloc);
     let mut notes = Page::new(alloc);
-    let result = match run_permutation(
-        rt, alloc, spec, blocks, &entries, &mut text, &mut notes, gate,
-    ) {
+    let result = match tell_permutation(alloc, spec, blocks, &entries, run, &mut text, &mut notes) {
         Err(RunFault::Write) => Err(RunFault::Memory),
         result => result,
     };
@@ -43,4 +43,27 @@ pub fn draft_of<G: Gate, R: Threads + Wait + Sync>(
         notes,
         result,
     }
+}
+
+/// Runs these permutations side by side, and writes their reports in memory, in the room that there is for them.
+pub fn drafts_of<G: Gate, R: Threads + Wait + Sync>(
+    rt: &R,
+    alloc: Global,
+    spec: &Spec<'_>,
+    blocks: &[Block<'_>],
+    taken: Vec<Vec<Entry>>,
+    mut drafts: Vec<Draft>,
+    gate: &G,
+) -> Vec<Draft>
+    requires stands { Stands (spec_view spec.now) }
+    requires room { HasRoomFor drafts taken.items }
+    ensures { AreDrafts (IsDraft (spec_view spec.now) (blocks_of blocks.now)) taken.items result }
+{
+    let mut runs = runs_of(rt, alloc, spec, blocks, &taken, gate).into_iter();
+    for entries in taken {
+        let run = runs.next();
+        let draft = draft_of(alloc, spec, blocks, entries, run);
+        drafts.push(draft).unwrap();
+    }
+    drafts
 }

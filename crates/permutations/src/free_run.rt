@@ -10,7 +10,7 @@ ghost use Rattle.spec_parser.specs.Stands.{Stands};
 ghost use Rattle.permutation_plans.specs.FreeRegular.{IsFreeRegular};
 ghost use Rattle.spec_files.specs.Runs.{is_of_run};
 
-use row_versions::ListStore;
+use chain_store::ChainStore;
 use session_threads::{Closed, Gate, run_free};
 use spec_files::{RunFault, free_plan_of};
 use spec_parser::Spec;
@@ -20,7 +20,7 @@ use std::sync::Wait;
 use std::thread::Threads;
 
 /// A closed run's history is a legal one.
-fn is_legal(closed: &Closed<'_, '_, ListStore>)
+fn is_legal(closed: &Closed<'_, '_, ChainStore>)
     ensures { IsLegal closed.now.state.blocks closed.now.state.count closed.now.state.mode closed.now.state.history }
 {
     let engine = closed.state();
@@ -35,7 +35,7 @@ pub fn free_run_of<'a, 't, G: Gate, R: Threads + Wait + Sync>(
     spec: &Spec<'_>,
     blocks: &'a [Block<'t>],
     gate: &G,
-) -> Result<Closed<'a, 't, ListStore>, RunFault>
+) -> Result<Closed<'a, 't, ChainStore>, RunFault>
     requires { Stands (spec_view spec.now) }
     ensures of { IfOk result (λ c. IsOf c.state (blocks_of blocks.now) (length (spec_view spec.now).sessions) Free) }
     ensures regular { IfOk result (λ c. IsFreeRegular (spec_view spec.now) (blocks_of blocks.now) c.state.history) }
@@ -43,7 +43,7 @@ pub fn free_run_of<'a, 't, G: Gate, R: Threads + Wait + Sync>(
     ensures faults { IfErr result (λ e. is_of_run e ≡ true) }
 {
     let plan = free_plan_of(alloc, spec)?;
-    let store = ListStore::new(alloc);
+    let store = ChainStore::new(alloc);
     let closed = run_free(rt, alloc, blocks, &plan, store, gate)?;
     is_legal(&closed);
     Ok(closed)

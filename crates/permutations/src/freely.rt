@@ -9,8 +9,8 @@ ghost use Rattle.spec_files.specs.Runners.{RanFreely};
 ghost use Rattle.permutations.specs.Telling.{Tells};
 
 use crate::free_run::free_run_of;
+use chain_store::ChainStore;
 use iso_lexer::{Sink, Source};
-use row_versions::ListStore;
 use session_threads::{Closed, Gate};
 use spec_files::{RunFault, SpecFile, free_spec_by, write_free};
 use spec_parser::Spec;
@@ -23,7 +23,7 @@ use std::thread::Threads;
 pub fn write_closed<W: Sink, N: Sink>(
     alloc: Global,
     spec: &Spec<'_>,
-    closed: &Closed<'_, '_, ListStore>,
+    closed: &Closed<'_, '_, ChainStore>,
     out: &mut W,
     notes: &mut N,
 ) -> Result<(), RunFault>
@@ -40,7 +40,7 @@ pub fn write_closed<W: Sink, N: Sink>(
 pub fn tell_run<'a, 't, W: Sink, N: Sink>(
     alloc: Global,
     spec: &Spec<'_>,
-    run: Result<Closed<'a, 't, ListStore>, RunFault>,
+    run: Result<Closed<'a, 't, ChainStore>, RunFault>,
     out: &mut W,
     notes: &mut N,
 ) -> Result<(), RunFault>

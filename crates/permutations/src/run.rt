@@ -1,13 +1,12 @@
 //! Runs a spec file, each permutation with a thread for each session.
 
-ghost use Rattle.std.specs.Prelude.{◌≡◌};
 ghost use Rattle.sql_blocks.specs.Blocks.{blocks_of};
 ghost use Rattle.spec_parser.specs.Trees.{spec_view};
 ghost use Rattle.spec_parser.specs.Stands.{Stands};
-ghost use Rattle.spec_files.specs.Drafts.{IsDraft};
+ghost use Rattle.spec_files.specs.Drafts.{AreDrafts, HasRoomFor, IsDraft};
 ghost use Rattle.spec_files.specs.Promises.{SpecIsRun};
 
-use crate::draft::draft_of;
+use crate::draft::drafts_of;
 use iso_lexer::{Sink, Source};
 use session_threads::Gate;
 use spec_files::{Draft, RunFault, SpecFile, run_spec_by};
@@ -43,9 +42,10 @@ pub fn run_spec<S: Source, W: Sink, N: Sink, G: Gate, R: Threads + Wait + Sync>(
 ) -> Result<(), RunFault>
     ensures { SpecIsRun S.Source W.Sink N.Sink input.old input.new out.old out.new notes.old notes.new limit result }
 {
-    let run = |file: &SpecFile<'_>, entries: Vec<Entry>| -> Draft
-        requires { Stands (spec_view file.now.spec) }
-        ensures { IsDraft (spec_view file.now.spec) (blocks_of file.now.blocks.items) result × (result.entries ≡ entries) }
-    { draft_of(rt, alloc, &file.spec, &file.blocks, entries, gate) };
+    let run = |file: &SpecFile<'_>, taken: Vec<Vec<Entry>>, room: Vec<Draft>| -> Vec<Draft>
+        requires stands { Stands (spec_view file.now.spec) }
+        requires room { HasRoomFor room taken.items }
+        ensures { AreDrafts (IsDraft (spec_view file.now.spec) (blocks_of file.now.blocks.items)) taken.items result }
+    { drafts_of(rt, alloc, &file.spec, &file.blocks, taken, room, gate) };
     run_spec_by(rt, alloc, input, out, notes, limit, &run)
 }

@@ -12,8 +12,8 @@ use std::sync::Wait;
 use std::thread::Threads;
 
 /// Runs the program as `serve` does, where the errors go to a terminal: where the input is one too (`typed`) it is said
-/// first how to give a file, and behind the line of a fault that names a byte the line of the file is quoted, with a mark
-/// under that byte.
+/// first how to give a file; behind the line of a fault that names a byte the line of the file is quoted, with a mark
+/// under that byte; and of some faults it is said what cures them.
 pub fn serve_at_terminal<S: Source, W: Sink, N: Sink, R: Threads + Wait + Sync>(
     rt: &R,
     alloc: Global,

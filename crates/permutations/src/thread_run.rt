@@ -1,6 +1,7 @@
 //! The run of one permutation, with a thread for each session.
 
-ghost use Rattle.std.specs.Prelude.{◌≡◌, ◌≢◌, ◌||◌, true, Err, map, IsTrue, IfOk, IfErr, IsErrOf};
+ghost use Rattle.std.specs.Prelude.{◌≡◌, ◌≢◌, ◌||◌, [], true, All, Err, length, map, IsTrue, IfErr, IfOk, IfSome, IsErrOf};
+ghost use Rattle.row_versions.specs.Log.{empty_content};
 ghost use Rattle.sql_blocks.specs.Blocks.{blocks_of};
 ghost use Rattle.session_machine.specs.Engine.{is_quiet_in};
 ghost use Rattle.spec_parser.specs.Trees.{entry_view, spec_view};
@@ -8,13 +9,15 @@ ghost use Rattle.spec_parser.specs.Stands.{Stands};
 ghost use Rattle.permutation_plans.specs.Regular.{IsRegular};
 ghost use Rattle.spec_files.specs.Begun.{Begun, OneSays};
 ghost use Rattle.spec_files.specs.Inner.Resting.{IsAtRest};
+ghost use Rattle.spec_files.specs.Plans.{IsFollowing};
 ghost use Rattle.spec_files.specs.Runs.{is_of_one, is_of_run, has_broken, has_ended, IsOneTold};
 ghost use Rattle.spec_files.specs.Written.{IsWritten};
+ghost use Rattle.permutations.specs.Inner.Runs.{ArePlans, RanAs, RanAsEach};
 
 use crate::driver::Plan;
+use chain_store::ChainStore;
 use iso_lexer::Sink;
-use row_versions::ListStore;
-use session_threads::{Closed, Gate, run_directed};
+use session_threads::{Closed, Gate, Run, ThreadFault, run_each};
 use spec_files::{Ended, RunFault, write_permutation};
 use spec_parser::{Entry, Spec};
 use sql_blocks::Block;
@@ -23,7 +26,7 @@ use std::sync::Wait;
 use std::thread::Threads;
 
 /// A closed run that is quiet came to rest: what its history leads to is its state.
-fn rests(closed: &Closed<'_, '_, ListStore>)
+fn rests(closed: &Closed<'_, '_, ChainStore>)
     requires { is_quiet_in closed.now.state.machine ≡ true }
     ensures { IsAtRest closed.now.state }
 {
@@ -31,26 +34,49 @@ fn rests(closed: &Closed<'_, '_, ListStore>)
     engine.history();
 }
 
-/// The closed run of a permutation. Its launches are the permutation's: what the plan doesn't give is never launched.
-pub fn run_of<'a, 't, G: Gate, R: Threads + Wait + Sync>(
+/// Each of these permutations with its plan, over an empty store: as many as memory allows, from the first on.
+fn plans_of<'s>(
+    alloc: Global,
+    spec: &Spec<'_>,
+    taken: &'s [Vec<Entry>],
+) -> Vec<Run<ChainStore, Plan<'s>>>
+    requires { Stands (spec_view spec.now) }
+    ensures plans { ArePlans (spec_view spec.now) taken.now (map (λ run. run.driver) result.items) }
+    ensures empty { All (λ run. run.store ≡ empty_content) result.items }
+    ensures follows { All (λ run. IsFollowing run.driver []) result.items }
+{
+    let mut runs = Vec::new(alloc);
+    for entries in taken {
+        let Ok(driver) = Plan::new(alloc, spec, entries) else {
+            return runs;
+        };
+        let store = ChainStore::new(alloc);
+        if runs.push(Run { store, driver }).is_err() {
+            return runs;
+        }
+    }
+    runs
+}
+
+/// The closed runs of these permutations, which one crew runs side by side. Their launches are the permutations': what a plan
+/// doesn't give is never launched. Where memory is refused there are fewer, from the first on.
+pub fn runs_of<'a, 't, G: Gate, R: Threads + Wait + Sync>(
     rt: &R,
     alloc: Global,
     spec: &Spec<'_>,
     blocks: &'a [Block<'t>],
-    entries: &[Entry],
+    taken: &[Vec<Entry>],
     gate: &G,
-) -> Result<Closed<'a, 't, ListStore>, RunFault>
+) -> Vec<Result<Closed<'a, 't, ChainStore>, ThreadFault>>
     requires { Stands (spec_view spec.now) }
-    ensures regular { IfOk result (λ c. IsRegular (spec_view spec.now) (blocks_of blocks.now) (map entry_view entries.now) c.state.history) }
-    ensures unbroken { result ≢ Err RunFault.ScheduleBroken }
-    ensures faults { IfErr result (λ e. is_of_run e ≡ true) }
+    ensures { RanAsEach (spec_view spec.now) (blocks_of blocks.now) taken.now result.items }
 {
     let sessions = spec.sessions.len() as u32;
-    let plan = Plan::new(alloc, spec, entries)?;
-    let store = ListStore::new(alloc);
-    let closed = run_directed(rt, alloc, blocks, sessions, store, plan, gate)?;
-    rests(&closed);
-    Ok(closed)
+    let runs = plans_of(alloc, spec, taken);
+    match run_each(rt, alloc, blocks, sessions, runs, gate) {
+        Ok(closed) => closed,
+        Err(_) => Vec::new(alloc),
+    }
 }
 
 /// Writes the report of a closed run.
@@ -58,7 +84,7 @@ fn write_run<W: Sink, N: Sink>(
     alloc: Global,
     spec: &Spec<'_>,
     entries: &[Entry],
-    closed: &Closed<'_, '_, ListStore>,
+    closed: &Closed<'_, '_, ChainStore>,
     out: &mut W,
     notes: &mut N,
 ) -> Result<Ended, RunFault>
@@ -70,18 +96,43 @@ fn write_run<W: Sink, N: Sink>(
     write_permutation(alloc, spec, entries, engine.history(), out, notes)
 }
 
-/// Runs a permutation on a new engine, with a thread for each session, and writes its report once the run is closed.
-pub fn run_permutation<W: Sink, N: Sink, G: Gate, R: Threads + Wait + Sync>(
-    rt: &R,
+/// A run of the permutation as it was closed. It is refused for the faults of its threads and for want of memory, and never as
+/// `ScheduleBroken`.
+fn closed_of<'a, 't>(
+    spec: &Spec<'_>,
+    blocks: &[Block<'_>],
+    entries: &[Entry],
+    run: Option<Result<Closed<'a, 't, ChainStore>, ThreadFault>>,
+) -> Result<Closed<'a, 't, ChainStore>, RunFault>
+    requires stands { Stands (spec_view spec.now) }
+    requires ran { IfSome run (λ run. IfOk run (RanAs (spec_view spec.now) (blocks_of blocks.now) (map entry_view entries.now))) }
+    ensures regular { IfOk result (λ c. IsRegular (spec_view spec.now) (blocks_of blocks.now) (map entry_view entries.now) c.state.history) }
+    ensures unbroken { result ≢ Err RunFault.ScheduleBroken }
+    ensures faults { IfErr result (λ e. is_of_run e ≡ true) }
+{
+    let _ = spec.sessions.len();
+    let _ = blocks.len();
+    let _ = entries.len();
+    let Some(run) = run else {
+        return Err(RunFault::Memory);
+    };
+    let closed = run?;
+    rests(&closed);
+    Ok(closed)
+}
+
+/// Writes the report of a run, where it was closed.
+pub fn tell_permutation<W: Sink, N: Sink>(
     alloc: Global,
     spec: &Spec<'_>,
     blocks: &[Block<'_>],
     entries: &[Entry],
+    run: Option<Result<Closed<'_, '_, ChainStore>, ThreadFault>>,
     out: &mut W,
     notes: &mut N,
-    gate: &G,
 ) -> Result<(), RunFault>
-    requires { Stands (spec_view spec.now) }
+    requires stands { Stands (spec_view spec.now) }
+    requires ran { IfSome run (λ run. IfOk run (RanAs (spec_view spec.now) (blocks_of blocks.now) (map entry_view entries.now))) }
     ensures told { IsTrue (has_ended result) → IsOneTold (spec_view spec.now) (blocks_of blocks.now) (map entry_view entries.now)
         (W.put_so_far out.old) (W.put_so_far out.new) (N.put_so_far notes.old) (N.put_so_far notes.new) result }
     ensures begun { Begun (OneSays (spec_view spec.now) (blocks_of blocks.now) (map entry_view entries.now))
@@ -91,7 +142,7 @@ pub fn run_permutation<W: Sink, N: Sink, G: Gate, R: Threads + Wait + Sync>(
     ensures write { IsErrOf result RunFault.Write → (W.failed out.new || N.failed notes.new) ≡ true }
     ensures kinds { IfErr result (λ e. is_of_one e ≡ true) }
 {
-    let closed = run_of(rt, alloc, spec, blocks, entries, gate)?;
+    let closed = closed_of(spec, blocks, entries, run)?;
     let written = write_run(alloc, spec, entries, &closed, out, notes);
     closed.end();
     written?;

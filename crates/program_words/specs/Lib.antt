@@ -1,3 +1,4 @@
+pub mod Cures
 pub mod Options
 pub mod Places
 pub mod Quote

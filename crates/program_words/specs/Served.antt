@@ -22,7 +22,7 @@ pub record RunsFile (options : Options) (file : List ℕ) (there out_failed : Bo
   pub write : IsErrOf answer faults.Write → (out_failed || err_failed) ≡ true
 
 -- the words are refused, and nothing is read; or no file is there; or the bytes that were read, all of the input up to one byte over the longest file, run with the options of the words.
--- Where someone types the file (`typed`) it is said first how to give one; where someone reads the errors (`there`) the line of a fault is followed by the line of the file
+-- Where someone types the file (`typed`) it is said first how to give one; where someone reads the errors (`there`) the line of a fault is followed by the line of the file, and by what cures the fault
 pub data IsServed (words : List Text) (left_old left_new : Option (List ℕ)) (in_failed typed there out_failed : Bool) (out_old out_new : Option (List ℕ))
     (err_failed : Bool) (err_old err_new : Option (List ℕ)) (status : ℕ) : Type 0 where
   refuses : IsRefused (fault_of program words) out_failed out_old out_new err_failed err_old err_new status → left_new ≡ left_old

@@ -1,4 +1,4 @@
--- What the errors take beside notes: how to give a file, the line of a fault, and at a terminal the line of the file that it names.
+-- What the errors take beside notes: how to give a file, the line of a fault, and at a terminal the line of the file that it names and words on its cure.
 use Rattle.std.specs.Prelude.{◌≡◌, ◌+◌, ℕ, Bool, true, false, List, [], ◌++◌, Option, Result, Ok, Err, codes}
 use Rattle.std.specs.Io.KnownBytes.{Appends}
 use Rattle.iso_lexer.specs.Devices.{PutsFront, TakesFew}
@@ -7,6 +7,7 @@ use Rattle.spec_files.specs.FaultText.{fault_line}
 use Rattle.spec_files.specs.Runs.{status_of}
 use Rattle.spec_files.specs.declared.fault.RunFault.{RunFault}
 use Rattle.spec_files.specs.declared.fault.RunFault.TheVariants as faults
+use Rattle.program_words.specs.Cures.{words_for}
 use Rattle.program_words.specs.Places.{place_in_file, quoted_at}
 use Rattle.program_words.specs.Shell.{Took}
 
@@ -35,9 +36,9 @@ pub data IsUnread (left_old left_new : Option (List ℕ)) (in_failed typed : Boo
 
 -- ---- behind the run
 
--- at a terminal the line of the file is quoted that a fault names
+-- at a terminal the line of the file is quoted that a fault names, and then it is said what cures it
 abbrev pub quote_of : Bool → List ℕ → RunFault → List ℕ
-quote_of true file e = quoted_at file (place_in_file e)
+quote_of true file e = quoted_at file (place_in_file e) ++ words_for file e
 quote_of false file e = []
 
 abbrev pub TellsFault : Bool → List ℕ → Result (Unit {0}) RunFault → Bool → Option (List ℕ) → Option (List ℕ) → Type 0

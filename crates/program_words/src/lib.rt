@@ -2,6 +2,7 @@
 //! who reads at a terminal.
 #![tactic(auto)]
 
+mod cure;
 mod fault_line;
 mod in_memory;
 pub mod laws;

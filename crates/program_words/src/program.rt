@@ -1,6 +1,6 @@
 //! What the program says beside what it runs: of words that are refused, and of faults.
 
-ghost use Rattle.std.specs.Prelude.{◌≡◌, ◌++◌, ℕ, List, [], IfErr, IfOk, IsErr, OnErr, OnOk, map, string_bytes, true};
+ghost use Rattle.std.specs.Prelude.{◌≡◌, ◌++◌, [], IfErr, IfOk, IsErr, OnErr, OnOk, map, string_bytes, true};
 ghost use Rattle.std.specs.Io.KnownBytes.{Appends};
 ghost use Rattle.clap.specs.Words.{HasKind, Kinds, fault_of, kind_of};
 ghost use Rattle.clap.specs.declared.error.kind.ErrorKind.TheVariants.{OutOfMemory};
@@ -8,13 +8,13 @@ ghost use Rattle.iso_lexer.specs.Devices.{PutsFront};
 ghost use Rattle.spec_files.specs.FaultText.{fault_line};
 ghost use Rattle.program_words.specs.Options.{program, GivesOptions};
 ghost use Rattle.spec_files.specs.Runs.{status_of};
-ghost use Rattle.program_words.specs.Places.{quoted_at};
 ghost use Rattle.program_words.specs.Shell.{IsPutOut, IsRefused, Took, exit_status, is_request};
 ghost use Rattle.program_words.specs.Terminal.{TellsFault, quote_of};
 
+use crate::cure::words_for;
 use crate::fault_line::{place_of, put_fault};
 use crate::options::{Options, options_of, status_of};
-use crate::pieces::put_text;
+use crate::pieces::{put_pieces, put_text};
 use crate::quote::put_quote;
 use clap::Error;
 use clap::error::ErrorKind;
@@ -87,14 +87,37 @@ pub fn take_words<W: Sink, N: Sink>(
     }
 }
 
-/// The byte at which the file is quoted: at a terminal (`there`) the one that the fault names.
-fn place_there(fault: &RunFault, there: bool) -> Option<usize>
-    ensures { (file : List ℕ) → quoted_at file result ≡ quote_of there file fault.now }
+/// Quotes the line of the file that a fault names, and says what cures it.
+fn put_besides<N: Sink>(err: &mut N, fault: &RunFault, file: &[u8]) -> Result<(), DeviceFault>
+    ensures bytes { OnOk result (Appends (N.put_so_far err.old) (N.put_so_far err.new) (quote_of true file.now fault.now)) }
+    ensures front { PutsFront (N.put_so_far err.old) (N.put_so_far err.new) (quote_of true file.now fault.now) }
+    ensures fails { OnErr result (N.failed err.new ≡ true) }
+    ensures stays { N.failed err.old ≡ true → N.failed err.new ≡ true }
 {
-    if there { place_of(fault) } else { None }
+    put_quote(err, file, place_of(fault))?;
+    err.put(words_for(file, fault).as_bytes())
 }
 
-/// Puts the line of a fault, and at a terminal (`there`) behind it the line of the file that it names.
+/// Puts what is shown behind the line of a fault: at a terminal (`there`) the line of the file that it names and what cures it.
+fn put_there<N: Sink>(
+    err: &mut N,
+    fault: &RunFault,
+    file: &[u8],
+    there: bool,
+) -> Result<(), DeviceFault>
+    ensures bytes { OnOk result (Appends (N.put_so_far err.old) (N.put_so_far err.new) (quote_of there file.now fault.now)) }
+    ensures front { PutsFront (N.put_so_far err.old) (N.put_so_far err.new) (quote_of there file.now fault.now) }
+    ensures fails { OnErr result (N.failed err.new ≡ true) }
+    ensures stays { N.failed err.old ≡ true → N.failed err.new ≡ true }
+{
+    if there {
+        put_besides(err, fault, file)
+    } else {
+        put_pieces(err, &[])
+    }
+}
+
+/// Puts the line of a fault, and at a terminal (`there`) behind it the line of the file that it names and what cures it.
 fn tell<N: Sink>(err: &mut N, fault: &RunFault, file: &[u8], there: bool) -> Result<(), DeviceFault>
     ensures bytes { OnOk result (Appends (N.put_so_far err.old) (N.put_so_far err.new) (fault_line fault.now ++ quote_of there file.now fault.now)) }
     ensures front { PutsFront (N.put_so_far err.old) (N.put_so_far err.new) (fault_line fault.now ++ quote_of there file.now fault.now) }
@@ -102,10 +125,10 @@ fn tell<N: Sink>(err: &mut N, fault: &RunFault, file: &[u8], there: bool) -> Res
     ensures stays { N.failed err.old ≡ true → N.failed err.new ≡ true }
 {
     put_fault(err, fault)?;
-    put_quote(err, file, place_there(fault, there))
+    put_there(err, fault, file, there)
 }
 
-/// Tells a fault, and at a terminal (`there`) the line of the file that it names; of a sink that fails there is no one to tell.
+/// Tells a fault, and at a terminal (`there`) what is shown besides; of a sink that fails there is no one to tell.
 fn tell_both<N: Sink>(err: &mut N, fault: &RunFault, file: &[u8], there: bool)
     ensures told { Took (N.failed err.new) (N.put_so_far err.old) (N.put_so_far err.new) (fault_line fault.now ++ quote_of there file.now fault.now) }
     ensures stays { N.failed err.old ≡ true → N.failed err.new ≡ true }
@@ -113,7 +136,7 @@ fn tell_both<N: Sink>(err: &mut N, fault: &RunFault, file: &[u8], there: bool)
     let _ = tell(err, fault, file, there);
 }
 
-/// The exit status of a run of a file. Its fault is told, and at a terminal (`there`) the line of the file that it names.
+/// The exit status of a run of a file. Its fault is told, and at a terminal (`there`) the line of the file that it names and what cures it.
 pub fn end<N: Sink>(answer: Result<(), RunFault>, file: &[u8], there: bool, err: &mut N) -> u8
     ensures status { result ≡ exit_status answer }
     ensures told { TellsFault there file.now answer (N.failed err.new) (N.put_so_far err.old) (N.put_so_far err.new) }

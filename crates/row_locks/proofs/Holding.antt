@@ -13,8 +13,7 @@ use Rattle.row_versions.specs.Members.{has, same_tx}
 use Rattle.row_locks.specs.Inner.Searching.{is_against}
 use Rattle.row_locks.specs.Held.{conflicts, holders_against, same_strength, same_lock, holds}
 use Rattle.row_locks.specs.Laws.{SameLocks, SameButFor, ConflictsGoBothWays, BlockersHoldInConflict, BlockersByWhatIsHeld, DoingAddsOnlyTheDoer, LocksAreHeld, EndsLetGo}
-use Rattle.row_locks.proofs.Reaching.{or_cases, or_left, or_right, and_both, both_and, same_is, is_same}
-use Rattle.row_locks.proofs.Waiting.{bool_is}
+use Rattle.row_locks.proofs.Cases.{bool_is, or_cases, or_left, or_right, and_both, both_and, same_is, is_same}
 
 pub strength_is : (a b : Strength) → same_strength a b ≡ true → a ≡ b
 strength_is a b e = same_true the_strength tt a b e

@@ -1,6 +1,11 @@
 pub mod Paths
+pub mod Cases
+pub mod Noting
 pub mod Reaching
+pub mod Releasing
 pub mod Against
 pub mod Waiting
 pub mod Holding
 pub mod Pairs
+pub mod Renewing
+pub mod Ending

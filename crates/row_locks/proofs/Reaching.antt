@@ -1,43 +1,21 @@
--- The search for what is reached finds all of it, and nothing else.
-use Rattle.std.proofs.Common.{◌≡◌, ◌↔◌, refl, sym, ◌∙◌, ap, subst, ◌⊎◌, inl, inr, Bool, true, false, cond, not, ◌||◌, ◌&&◌, ℕ, zero, suc, ◌<◌, ◌≤◌, ◌+◌, List, [], ◌∷◌, ◌++◌, length, arith, get_or}
-use Rattle.std.specs.Prelude.{Option, Some, None, slice_get, position, IsTrue, remove}
-use Rattle.std.specs.List.{position_or_len}
-use Rattle.std.proofs.lemmas.Bool.{eqb-true, eq-eqb, cases_lt}
-use Rattle.std.proofs.lemmas.List.{append-nil}
+-- The search for what is reached finds all of it, and nothing else, and comes to an end.
+use Rattle.std.proofs.Common.{◌≡◌, ◌↔◌, refl, sym, ◌∙◌, ap, subst, ◌⊎◌, inl, inr, ◌==◌, Bool, true, false, cond, ◌&&◌, ℕ, zero, suc, ◌<◌, ◌≤◌, ◌+◌, ◌-◌, List, [], ◌∷◌, ◌++◌, length, arith, get_or}
+use Rattle.std.specs.Prelude.{Some, IsTrue}
+use Rattle.std.proofs.lemmas.Bool.{cases_lt, eqb-true, eq-eqb}
+use Rattle.std.proofs.lemmas.List.{append-nil, append_assoc, length-append}
+use Rattle.places.specs.declared.places.Places.{Places}
+use Rattle.places.specs.Noted.{noted, has_place}
 use Rattle.std.proofs.lemmas.List.Folds.{list_any-append}
-use Rattle.std.proofs.lemmas.List.Quantifiers.{position-Some}
 use Rattle.row_versions.specs.declared.names.TxId.{TxId}
 use Rattle.row_versions.specs.Members.{has, same_tx}
-use Rattle.row_locks.specs.Waiting.{Waiting}
-use Rattle.row_locks.specs.Inner.Searching.{blockers_at, blockers_in, is_reached, is_reached_in}
+use Rattle.ordered_slots.specs.Kept.{has_no_slot_twice, has_slot, slots, value_in, values}
+use Rattle.row_locks.specs.Waiting.{Waiting, is_wait_of}
+use Rattle.row_locks.specs.Inner.Noting.{AreNoted, slots_of}
+use Rattle.row_locks.specs.Inner.Searching.{blockers_at, blockers_in, reach, reach_one, spread}
 use Rattle.row_locks.specs.Cycles.{Path, Leads, Closes, blocks}
+use Rattle.row_locks.proofs.Cases.{bool_is, or_cases, or_left, or_right, and_both, both_and, same_is, is_same}
+use Rattle.row_locks.proofs.Noting.{has_noted, noted_has, other_slot, value_here, value_there}
 use Rattle.row_locks.proofs.Paths.{one_step, leads_on, nowhere}
-
-pub or_cases : (p q : Bool) → (p || q) ≡ true → (p ≡ true) ⊎ (q ≡ true)
-or_cases true q h = inl refl
-or_cases false q h = inr h
-
-pub or_left : (p q : Bool) → p ≡ true → (p || q) ≡ true
-or_left true q h = refl
-or_left false q h = cc
-
-pub or_right : (p q : Bool) → q ≡ true → (p || q) ≡ true
-or_right true q h = refl
-or_right false q h = h
-
-pub and_both : (p q : Bool) → (p && q) ≡ true → (p ≡ true) × (q ≡ true)
-and_both true q h = (refl, h)
-and_both false q h = cc
-
-pub both_and : (p q : Bool) → p ≡ true → q ≡ true → (p && q) ≡ true
-both_and true q h k = k
-both_and false q h k = cc
-
-pub same_is : (a b : TxId) → same_tx a b ≡ true → a ≡ b
-same_is a b h = let mk : ℕ → TxId = λ n. record { 0 = n } in ap mk (eqb-true a.0 b.0 h)
-
-pub is_same : (a : TxId) → same_tx a a ≡ true
-is_same a = eq-eqb a.0 a.0 refl
 
 pub has_left : (xs ys : List TxId) (z : TxId) → has xs z ≡ true → has (xs ++ ys) z ≡ true
 has_left xs ys z h = list_any-append (λ o. same_tx o z) xs ys ∙ or_left (has xs z) (has ys z) h
@@ -48,133 +26,277 @@ has_right xs ys z h = list_any-append (λ o. same_tx o z) xs ys ∙ or_right (ha
 pub has_cases : (xs ys : List TxId) (z : TxId) → has (xs ++ ys) z ≡ true → (has xs z ≡ true) ⊎ (has ys z ≡ true)
 has_cases xs ys z h = or_cases (has xs z) (has ys z) (sym (list_any-append (λ o. same_tx o z) xs ys) ∙ h)
 
--- a pair stands in some wait
-pub pair_at : (waits : List Waiting) (a b : TxId) → blocks waits a b ≡ true → (i : ℕ) × (w : Waiting) × (slice_get waits i ≡ Some w) × (w.tx ≡ a) × (has w.blockers b ≡ true) × (i < length waits)
-pair_at [] a b h = cc
-pair_at (w ∷ waits) a b h = elim (or_cases (same_tx w.tx a && has w.blockers b) (blocks waits a b) h) [
-  | inl k ↦ let p = and_both (same_tx w.tx a) (has w.blockers b) k in (0, w, refl, same_is w.tx a p.0, p.1, omega arith)
-  | inr k ↦ let r = pair_at waits a b k in (suc r.0, r.1, r.2, r.3, r.4, let l = r.5 in omega arith)
+-- what is in a slot of the rest is so in all, where no slot has two values
+further : {T : Type 0} (pair : ℕ × T) (rest : List (ℕ × T)) (slot : ℕ) (value : T) → has_slot rest pair.0 ≡ false → value_in rest slot ≡ Some value → value_in (pair ∷ rest) slot ≡ Some value
+further pair rest slot value none is = rw (other_slot rest pair.0 slot value none is) is
+
+-- a pair stands in the wait of some slot
+pub pair_at : (waits : List (ℕ × Waiting)) (a b : TxId) → has_no_slot_twice waits → blocks (values waits) a b ≡ true → (slot : ℕ) × (w : Waiting) × (value_in waits slot ≡ Some w) × (w.tx ≡ a) × (has w.blockers b ≡ true) × (has_slot waits slot ≡ true)
+pair_at [] a b apart h = cc
+pair_at (pair ∷ waits) a b apart h = elim (or_cases (same_tx pair.1.tx a && has pair.1.blockers b) (blocks (values waits) a b) h) [
+  | inl k ↦
+      let p = and_both (same_tx pair.1.tx a) (has pair.1.blockers b) k in
+      let same = eq-eqb pair.0 pair.0 refl in
+      (pair.0, pair.1, rw same, same_is pair.1.tx a p.0, p.1, or_left (pair.0 == pair.0) (has_slot waits pair.0) same)
+  | inr k ↦
+      let r = pair_at waits a b apart.1 k in
+      (r.0, r.1, further pair waits r.0 r.1 apart.0 r.2, r.3, r.4, or_right (pair.0 == r.0) (has_slot waits r.0) r.5)
 ]
 
-pub pair_of : (waits : List Waiting) (i : ℕ) (w : Waiting) (b : TxId) → slice_get waits i ≡ Some w → has w.blockers b ≡ true → blocks waits w.tx b ≡ true
-pair_of [] i w b e h = cc
-pair_of (v ∷ waits) zero w b e h =
-    let is : v ≡ w = cc in
-    or_left (same_tx v.tx w.tx && has v.blockers b) (blocks waits w.tx b) (both_and (same_tx v.tx w.tx) (has v.blockers b) (subst (λ u. same_tx u.tx w.tx ≡ true) {x = w} {y = v} (sym is) (is_same w.tx)) (subst (λ u. has u.blockers b ≡ true) {x = w} {y = v} (sym is) h))
-pair_of (v ∷ waits) (suc i) w b e h = or_right (same_tx v.tx w.tx && has v.blockers b) (blocks waits w.tx b) (pair_of waits i w b e h)
-
--- the place is among those that are left
-abbrev pub IsLeft : List ℕ → ℕ → Type 0
-IsLeft [] i = ⊥
-IsLeft (k ∷ rest) i = (k ≡ i) ⊎ IsLeft rest i
-
-pub left_before : (rest : List ℕ) (k i : ℕ) → IsLeft rest i → IsLeft (rest ++ k ∷ []) i
-left_before [] k i h = absurd h
-left_before (j ∷ rest) k i (inl e) = inl e
-left_before (j ∷ rest) k i (inr l) = inr (left_before rest k i l)
-
-pub left_last : (rest : List ℕ) (k : ℕ) → IsLeft (rest ++ k ∷ []) k
-left_last [] k = inl refl
-left_last (j ∷ rest) k = inr (left_last rest k)
-
-pub left_more : (rest : List ℕ) (place : ℕ) → ((i : ℕ) → i < place → IsLeft rest i) → (i : ℕ) → i < place + 1 → IsLeft (rest ++ place ∷ []) i
-left_more rest place all i h = elim (cases_lt i place) [
-  | inl l ↦ left_before rest place i (all i l)
-  | inr g ↦ let e : place ≡ i = omega arith in subst (λ j. IsLeft (rest ++ place ∷ []) j) e (left_last rest place)
+pub pair_of : (waits : List (ℕ × Waiting)) (slot : ℕ) (w : Waiting) (b : TxId) → value_in waits slot ≡ Some w → has w.blockers b ≡ true → blocks (values waits) w.tx b ≡ true
+pair_of [] slot w b e h = cc
+pair_of (pair ∷ waits) slot w b e h = elim (bool_is (pair.0 == slot)) [
+  | inl k ↦
+      let is : pair.1 ≡ w = value_here pair waits slot w k e in
+      or_left (same_tx pair.1.tx w.tx && has pair.1.blockers b) (blocks (values waits) w.tx b) (both_and (same_tx pair.1.tx w.tx) (has pair.1.blockers b) (subst (λ u. same_tx u.tx w.tx ≡ true) {x = w} {y = pair.1} (sym is) (is_same w.tx)) (subst (λ u. has u.blockers b ≡ true) {x = w} {y = pair.1} (sym is) h))
+  | inr k ↦ or_right (same_tx pair.1.tx w.tx && has pair.1.blockers b) (blocks (values waits) w.tx b) (pair_of waits slot w b (value_there pair waits slot w k e) h)
 ]
 
--- what is left is the one that is taken, or left after it
-pub left_but : (rest : List ℕ) (at i d : ℕ) → IsLeft rest i → (get_or rest at d ≡ i) ⊎ IsLeft (remove rest at) i
-left_but [] at i d h = absurd h
-left_but (j ∷ rest) zero i d (inl e) = inl e
-left_but (j ∷ rest) zero i d (inr l) = inr l
-left_but (j ∷ rest) (suc at) i d (inl e) = inr (inl e)
-left_but (j ∷ rest) (suc at) i d (inr l) = elim (left_but rest at i d l) [ inl e ↦ inl e | inr m ↦ inr (inr m) ]
+-- ---- blockers of one wait
+one_keeps : (reached : List TxId) (b z : TxId) → has reached z ≡ true → has (reach_one reached b) z ≡ true
+one_keeps reached b z h = elim (bool_is (has reached b)) [
+  | inl k ↦ rw k h
+  | inr k ↦ rw k (has_left reached (b ∷ []) z h)
+]
 
-found : (p : ℕ → Bool) (xs : List ℕ) (i : ℕ) → IsLeft xs i → p i ≡ true → position_or_len p xs < length xs
-found p [] i h k = absurd h
-found p (x ∷ xs) i (inl e) k =
-    let h : p x ≡ true = subst (λ j. p j ≡ true) (sym e) k in
-    subst (λ b. cond (not b) (1 + position_or_len p xs) 0 < suc (length xs)) (sym h) (omega arith)
-found p (x ∷ xs) i (inr l) k =
-    let h = found p xs i l k in
-    elim (p x) as (λ b. cond (not b) (1 + position_or_len p xs) 0 < suc (length xs)) [ true ↦ omega arith | false ↦ omega arith ]
+one_has : (reached : List TxId) (b z : TxId) → same_tx b z ≡ true → has (reach_one reached b) z ≡ true
+one_has reached b z h = elim (bool_is (has reached b)) [
+  | inl k ↦ rw k (subst (λ t. has reached t ≡ true) (same_is b z h) k)
+  | inr k ↦ rw k (has_right reached (b ∷ []) z (or_left (same_tx b z) false h))
+]
 
-pub none_left : (p : ℕ → Bool) (xs : List ℕ) (i : ℕ) → position p xs ≡ None → IsLeft xs i → p i ≡ true → ⊥
-none_left p xs i none l h = let k = found p xs i l h in grind (arith, k, none)
+one_only : (reached : List TxId) (b z : TxId) → has (reach_one reached b) z ≡ true → (has reached z ≡ true) ⊎ (same_tx b z ≡ true)
+one_only reached b z h = elim (bool_is (has reached b)) [
+  | inl k ↦ inl (rw k at h)
+  | inr k ↦ elim (has_cases reached (b ∷ []) z (rw k at h)) [
+    | inl m ↦ inl m
+    | inr m ↦ elim (or_cases (same_tx b z) false m) [ inl n ↦ inr n | inr n ↦ cc ]
+  ]
+]
 
-pub record Spreads (waits : List Waiting) (blockers : List TxId) (rest : List ℕ) (reached : List TxId) : Type 0 where
-  pub sound : (z : TxId) → has reached z ≡ true → (b : TxId) × (has blockers b ≡ true) × Leads (blocks waits) b z
+reach_keeps : (bs reached : List TxId) (z : TxId) → has reached z ≡ true → has (reach bs reached) z ≡ true
+reach_keeps [] reached z h = h
+reach_keeps (b ∷ bs) reached z h = reach_keeps bs (reach_one reached b) z (one_keeps reached b z h)
+
+reach_all : (bs reached : List TxId) (z : TxId) → has bs z ≡ true → has (reach bs reached) z ≡ true
+reach_all [] reached z h = cc
+reach_all (b ∷ bs) reached z h = elim (or_cases (same_tx b z) (has bs z) h) [
+  | inl k ↦ reach_keeps bs (reach_one reached b) z (one_has reached b z k)
+  | inr k ↦ reach_all bs (reach_one reached b) z k
+]
+
+reach_only : (bs reached : List TxId) (z : TxId) → has (reach bs reached) z ≡ true → (has reached z ≡ true) ⊎ (has bs z ≡ true)
+reach_only [] reached z h = inl h
+reach_only (b ∷ bs) reached z h = elim (reach_only bs (reach_one reached b) z h) [
+  | inl k ↦ elim (one_only reached b z k) [
+    | inl m ↦ inl m
+    | inr m ↦ inr (or_left (same_tx b z) (has bs z) m)
+  ]
+  | inr k ↦ inr (or_right (same_tx b z) (has bs z) k)
+]
+
+-- what is reached already stays in front
+abbrev Begins : List TxId → List TxId → Type 0
+Begins reached after = (more : List TxId) × (after ≡ reached ++ more)
+
+begins_on : (xs ys zs : List TxId) → Begins xs ys → Begins ys zs → Begins xs zs
+begins_on xs ys zs p q = (p.0 ++ q.0, q.1 ∙ ap (λ l. l ++ q.0) p.1 ∙ append_assoc xs p.0 q.0)
+
+one_begins : (reached : List TxId) (b : TxId) → Begins reached (reach_one reached b)
+one_begins reached b = elim (bool_is (has reached b)) [
+  | inl k ↦ ([], rw k (sym (append-nil reached)))
+  | inr k ↦ (b ∷ [], rw k)
+]
+
+reach_begins : (bs reached : List TxId) → Begins reached (reach bs reached)
+reach_begins [] reached = ([], sym (append-nil reached))
+reach_begins (b ∷ bs) reached = begins_on reached (reach_one reached b) (reach bs (reach_one reached b)) (one_begins reached b) (reach_begins bs (reach_one reached b))
+
+-- ---- blockers of the waits in some slots
+spread_keeps : (waits : List (ℕ × Waiting)) (slots : List ℕ) (reached : List TxId) (z : TxId) → has reached z ≡ true → has (spread waits slots reached) z ≡ true
+spread_keeps waits [] reached z h = h
+spread_keeps waits (slot ∷ slots) reached z h = spread_keeps waits slots (reach (blockers_at waits slot) reached) z (reach_keeps (blockers_at waits slot) reached z h)
+
+spread_all : (waits : List (ℕ × Waiting)) (slots : List ℕ) (reached : List TxId) (slot : ℕ) (z : TxId) → has_place slots slot ≡ true → has (blockers_at waits slot) z ≡ true → has (spread waits slots reached) z ≡ true
+spread_all waits [] reached slot z there h = cc
+spread_all waits (first ∷ slots) reached slot z there h = elim (or_cases (first == slot) (has_place slots slot) there) [
+  | inl k ↦ spread_keeps waits slots (reach (blockers_at waits first) reached) z (reach_all (blockers_at waits first) reached z (subst (λ n. has (blockers_at waits n) z ≡ true) (sym (eqb-true first slot k)) h))
+  | inr k ↦ spread_all waits slots (reach (blockers_at waits first) reached) slot z k h
+]
+
+spread_only : (waits : List (ℕ × Waiting)) (slots : List ℕ) (reached : List TxId) (z : TxId) → has (spread waits slots reached) z ≡ true → (has reached z ≡ true) ⊎ ((slot : ℕ) × (has_place slots slot ≡ true) × (has (blockers_at waits slot) z ≡ true))
+spread_only waits [] reached z h = inl h
+spread_only waits (first ∷ slots) reached z h = elim (spread_only waits slots (reach (blockers_at waits first) reached) z h) [
+  | inl k ↦ elim (reach_only (blockers_at waits first) reached z k) [
+    | inl m ↦ inl m
+    | inr m ↦ inr (first, or_left (first == first) (has_place slots first) (eq-eqb first first refl), m)
+  ]
+  | inr k ↦ inr (k.0, or_right (first == k.0) (has_place slots k.0) k.1, k.2)
+]
+
+spread_begins : (waits : List (ℕ × Waiting)) (slots : List ℕ) (reached : List TxId) → Begins reached (spread waits slots reached)
+spread_begins waits [] reached = ([], sym (append-nil reached))
+spread_begins waits (slot ∷ slots) reached = begins_on reached (reach (blockers_at waits slot) reached) (spread waits slots (reach (blockers_at waits slot) reached)) (reach_begins (blockers_at waits slot) reached) (spread_begins waits slots (reach (blockers_at waits slot) reached))
+
+-- ---- how many are still to be reached at most
+-- how many of all aren't reached
+abbrev left : List TxId → List TxId → ℕ
+left [] reached = 0
+left (u ∷ all) reached = cond (has reached u) (left all reached) (1 + left all reached)
+
+left_more : (all reached more : List TxId) → left all (reached ++ more) ≤ left all reached
+left_more [] reached more = omega arith
+left_more (u ∷ all) reached more =
+    let on = left_more all reached more in
+    elim (bool_is (has reached u)) [
+      | inl k ↦ rw (k, has_left reached more u k) on
+      | inr k ↦ elim (bool_is (has (reached ++ more) u)) [
+        | inl m ↦ rw (k, m) (omega arith)
+        | inr m ↦ rw (k, m) (omega arith)
+      ]
+    ]
+
+left_less : (all reached : List TxId) (b : TxId) → has all b ≡ true → has reached b ≡ false → left all (reached ++ b ∷ []) + 1 ≤ left all reached
+left_less [] reached b h none = cc
+left_less (u ∷ all) reached b h none = elim (or_cases (same_tx u b) (has all b) h) [
+  | inl k ↦
+      let e : u ≡ b = same_is u b k in
+      let before : has reached u ≡ false = subst (λ t. has reached t ≡ false) (sym e) none in
+      let after : has (reached ++ b ∷ []) u ≡ true = has_right reached (b ∷ []) u (or_left (same_tx b u) false (subst (λ t. same_tx t u ≡ true) e (is_same u))) in
+      let on = left_more all reached (b ∷ []) in
+      rw (before, after) (omega arith)
+  | inr k ↦
+      let on = left_less all reached b k none in
+      elim (bool_is (has reached u)) [
+        | inl m ↦ rw (m, has_left reached (b ∷ []) u m) on
+        | inr m ↦ elim (bool_is (has (reached ++ b ∷ []) u)) [
+          | inl n ↦ rw (m, n) (omega arith)
+          | inr n ↦ rw (m, n) (omega arith)
+        ]
+      ]
+]
+
+abbrev AreOf : List TxId → List TxId → Type 0
+AreOf all bs = (z : TxId) → has bs z ≡ true → has all z ≡ true
+
+one_measured : (all reached : List TxId) (b : TxId) → has all b ≡ true → left all (reach_one reached b) + length (reach_one reached b) ≤ left all reached + length reached
+one_measured all reached b h = elim (bool_is (has reached b)) [
+  | inl k ↦ rw k (omega arith)
+  | inr k ↦ rw k (let l = left_less all reached b h k in omega (arith, length-append reached (b ∷ [])))
+]
+
+reach_measured : (all bs reached : List TxId) → AreOf all bs → left all (reach bs reached) + length (reach bs reached) ≤ left all reached + length reached
+reach_measured all [] reached are = omega arith
+reach_measured all (b ∷ bs) reached are =
+    let first = one_measured all reached b (are b (or_left (same_tx b b) (has bs b) (is_same b))) in
+    let rest = reach_measured all bs (reach_one reached b) (λ z h. are z (or_right (same_tx b z) (has bs z) h)) in
+    omega arith
+
+abbrev all_blockers : List (ℕ × Waiting) → List TxId
+all_blockers [] = []
+all_blockers (pair ∷ waits) = pair.1.blockers ++ all_blockers waits
+
+of_all : (waits : List (ℕ × Waiting)) (slot : ℕ) → AreOf (all_blockers waits) (blockers_at waits slot)
+of_all [] slot z h = cc
+of_all (pair ∷ waits) slot z h = elim (bool_is (pair.0 == slot)) [
+  | inl k ↦ has_left pair.1.blockers (all_blockers waits) z (rw k at h)
+  | inr k ↦ has_right pair.1.blockers (all_blockers waits) z (of_all waits slot z (rw k at h))
+]
+
+-- how long the search may still take
+abbrev pub still : List (ℕ × Waiting) → List TxId → ℕ → ℕ
+still waits reached next = (left (all_blockers waits) reached + length reached) - next
+
+spread_measured : (waits : List (ℕ × Waiting)) (slots : List ℕ) (reached : List TxId) → left (all_blockers waits) (spread waits slots reached) + length (spread waits slots reached) ≤ left (all_blockers waits) reached + length reached
+spread_measured waits [] reached = omega arith
+spread_measured waits (slot ∷ slots) reached =
+    let first = reach_measured (all_blockers waits) (blockers_at waits slot) reached (of_all waits slot) in
+    let rest = spread_measured waits slots (reach (blockers_at waits slot) reached) in
+    omega arith
+
+pub nearer : (waits : List (ℕ × Waiting)) (slots : List ℕ) (reached after : List TxId) (next : ℕ) → after ≡ spread waits slots reached → next < length reached → still waits after (next + 1) < still waits reached next
+nearer waits slots reached after next e l =
+    let m = spread_measured waits slots reached in
+    subst (λ xs. still waits xs (next + 1) < still waits reached next) (sym e) (omega arith)
+
+-- ---- the search
+-- what is reached is reached from the blockers, they are reached, and the waits of the first have had their blockers reached
+pub record Spreads (waits : List (ℕ × Waiting)) (blockers : List TxId) (next : ℕ) (reached : List TxId) : Type 0 where
+  pub sound : (z : TxId) → has reached z ≡ true → (b : TxId) × (has blockers b ≡ true) × Leads (blocks (values waits)) b z
   pub from : (b : TxId) → has blockers b ≡ true → has reached b ≡ true
-  pub done : (i : ℕ) → i < length waits → IsLeft rest i ⊎ ((b : TxId) → has (blockers_at waits i) b ≡ true → has reached b ≡ true)
+  pub within : next ≤ length reached
+  pub done : (k : ℕ) (d : TxId) → k < next → (b : TxId) → blocks (values waits) (get_or reached k d) b ≡ true → has reached b ≡ true
 
-pub spreads_init : (waits : List Waiting) (blockers : List TxId) (rest : List ℕ) → ((i : ℕ) → i < length waits → IsLeft rest i) → Spreads waits blockers rest blockers
-spreads_init waits blockers rest all = record {
-  sound = λ z h. (z, h, nowhere (blocks waits) z);
+pub spreads_init : (waits : List (ℕ × Waiting)) (blockers : List TxId) → Spreads waits blockers 0 blockers
+spreads_init waits blockers = record {
+  sound = λ z h. (z, h, nowhere (blocks (values waits)) z);
   from = λ b h. h;
-  done = λ i l. inl (all i l);
+  within = omega arith;
+  done = λ k d l. absurd (omega arith);
 }
 
--- who waits at a place that is reached
-reached_at : (reached : List TxId) (o : Option Waiting) → is_reached_in reached o ≡ true → (w : Waiting) × (o ≡ Some w) × (has reached w.tx ≡ true)
-reached_at reached None h = cc
-reached_at reached (Some w) h = (w, refl, h)
+has_at : (xs : List TxId) (k : ℕ) (d : TxId) → k < length xs → has xs (get_or xs k d) ≡ true
+has_at [] k d l = absurd (omega arith)
+has_at (x ∷ xs) zero d l = or_left (same_tx x x) (has xs x) (is_same x)
+has_at (x ∷ xs) (suc k) d l = or_right (same_tx x (get_or xs k d)) (has xs (get_or xs k d)) (has_at xs k d (omega arith))
 
-pub spreads_on : (waits : List Waiting) (blockers : List TxId) (rest : List ℕ) (reached : List TxId) (at place : ℕ) → Spreads waits blockers rest reached → position (λ k. is_reached waits reached k) rest ≡ Some at → place ≡ get_or rest at place → Spreads waits blockers (remove rest at) (reached ++ blockers_at waits place)
-spreads_on waits blockers rest reached at place s e is =
-    let hit = position-Some (λ k. is_reached waits reached k) rest at place e in
-    let here : is_reached waits reached place ≡ true = subst (λ k. is_reached waits reached k ≡ true) (sym is) hit.1 in
-    let w = reached_at reached (slice_get waits place) here in
-    record {
-      sound = λ z h. elim (has_cases reached (blockers_at waits place) z h) [
+read_in : (xs more : List TxId) (k : ℕ) (d e : TxId) → k < length xs → get_or (xs ++ more) k d ≡ get_or xs k e
+read_in [] more k d e l = absurd (omega arith)
+read_in (x ∷ xs) more zero d e l = refl
+read_in (x ∷ xs) more (suc k) d e l = read_in xs more k d e (omega arith)
+
+longer : (xs more : List TxId) → length xs ≤ length (xs ++ more)
+longer [] more = omega arith
+longer (x ∷ xs) more = let l = longer xs more in omega arith
+
+pub spreads_step : (waits : List (ℕ × Waiting)) (by_tx : Places) (blockers : List TxId) (next : ℕ) (reached after : List TxId) (a : TxId) → has_no_slot_twice waits → AreNoted (λ (w : Waiting). w.tx.0) by_tx waits → next < length reached → a ≡ get_or reached next a
+    → after ≡ spread waits (noted by_tx a.0) reached → Spreads waits blockers next reached → Spreads waits blockers (next + 1) after
+spreads_step waits by_tx blockers next reached after a apart are l is e s =
+    subst (λ xs. Spreads waits blockers (next + 1) xs) (sym (e ∙ ap (λ slots. spread waits slots reached) (are a.0))) (record {
+      sound = λ z h. elim (spread_only waits (slots_of (is_wait_of a) waits) reached z h) [
         | inl k ↦ s.sound z k
         | inr k ↦
-            let r = s.sound w.0.tx w.2 in
-            let k' : has w.0.blockers z ≡ true = subst (λ o. has (blockers_in o) z ≡ true) w.1 k in
-            (r.0, r.1, leads_on (blocks waits) r.0 w.0.tx z r.2 (one_step (blocks waits) w.0.tx z z (pair_of waits place w.0 z w.1 k') (nowhere (blocks waits) z)))
+            let w = noted_has (is_wait_of a) waits k.0 apart k.1 in
+            let pair : blocks (values waits) w.0.tx z ≡ true = pair_of waits k.0 w.0 z w.1 (subst (λ o. has (blockers_in o) z ≡ true) w.1 k.2) in
+            let r = s.sound a (subst (λ t. has reached t ≡ true) (sym is) (has_at reached next a l)) in
+            (r.0, r.1, leads_on (blocks (values waits)) r.0 a z r.2 (one_step (blocks (values waits)) a z z (subst (λ t. blocks (values waits) t z ≡ true) (same_is w.0.tx a w.2) pair) (nowhere (blocks (values waits)) z)))
       ];
-      from = λ b h. has_left reached (blockers_at waits place) b (s.from b h);
-      done = λ i l. elim (s.done i l) [
-        | inl left ↦ elim (left_but rest at i place left) [
-          | inl k ↦ inr (λ b h. has_right reached (blockers_at waits place) b (subst (λ j. has (blockers_at waits j) b ≡ true) (sym (is ∙ k)) h))
-          | inr m ↦ inl m
-        ]
-        | inr f ↦ inr (λ b h. has_left reached (blockers_at waits place) b (f b h))
-      ];
-    }
+      from = λ b h. spread_keeps waits (slots_of (is_wait_of a) waits) reached b (s.from b h);
+      within = (let g = spread_begins waits (slots_of (is_wait_of a) waits) reached in subst (λ xs. next + 1 ≤ length xs) (sym g.1) (let m = longer reached g.0 in omega arith));
+      done = λ k d m b h.
+          let g = spread_begins waits (slots_of (is_wait_of a) waits) reached in
+          let p : blocks (values waits) (get_or reached k a) b ≡ true = subst (λ t. blocks (values waits) t b ≡ true) (ap (λ xs. get_or xs k d) g.1 ∙ read_in reached g.0 k d a (omega arith)) h in
+          elim (cases_lt k next) [
+            | inl n ↦ spread_keeps waits (slots_of (is_wait_of a) waits) reached b (s.done k a n b p)
+            | inr n ↦
+                let here : k ≡ next = omega arith in
+                let q : blocks (values waits) a b ≡ true = subst (λ t. blocks (values waits) t b ≡ true) (ap (λ i. get_or reached i a) here ∙ sym is) p in
+                let r = pair_at waits a b apart q in
+                spread_all waits (slots_of (is_wait_of a) waits) reached r.0 b
+                (has_noted (is_wait_of a) waits r.0 r.1 r.2 (subst (λ t. same_tx t a ≡ true) (sym r.3) (is_same a)))
+                (subst (λ o. has (blockers_in o) b ≡ true) (sym r.2) r.4)
+          ];
+    })
+
+place_in : (xs : List TxId) (a : TxId) → has xs a ≡ true → (k : ℕ) × (k < length xs) × (get_or xs k a ≡ a)
+place_in [] a h = cc
+place_in (x ∷ xs) a h = elim (or_cases (same_tx x a) (has xs a) h) [
+  | inl k ↦ (0, omega arith, same_is x a k)
+  | inr k ↦ let r = place_in xs a k in (suc r.0, (let l = r.1 in omega arith), r.2)
+]
 
 -- at the end what is reached has its blockers reached
-closed : (waits : List Waiting) (blockers : List TxId) (rest : List ℕ) (reached : List TxId) → Spreads waits blockers rest reached → position (λ k. is_reached waits reached k) rest ≡ None → (a b : TxId) → blocks waits a b ≡ true → has reached a ≡ true → has reached b ≡ true
-closed waits blockers rest reached s none a b h k =
-    let r = pair_at waits a b h in
-    elim (s.done r.0 r.5) [
-      | inl left ↦ absurd (none_left (λ i. is_reached waits reached i) rest r.0 none left (subst (λ o. is_reached_in reached o ≡ true) (sym r.2) (subst (λ t. has reached t ≡ true) (sym r.3) k)))
-      | inr f ↦ f b (subst (λ o. has (blockers_in o) b ≡ true) (sym r.2) r.4)
-    ]
+closed : (waits : List (ℕ × Waiting)) (blockers : List TxId) (next : ℕ) (reached : List TxId) → Spreads waits blockers next reached → length reached ≤ next → (a b : TxId) → blocks (values waits) a b ≡ true → has reached a ≡ true → has reached b ≡ true
+closed waits blockers next reached s l a b h k =
+    let r = place_in reached a k in
+    s.done r.0 a (let m = r.1 in omega arith) b (subst (λ t. blocks (values waits) t b ≡ true) (sym r.2) h)
 
 along : (E : TxId → TxId → Bool) (reached : List TxId) → ((a b : TxId) → E a b ≡ true → has reached a ≡ true → has reached b ≡ true) → (a : TxId) (over : List TxId) (z : TxId) → Path E a over z → has reached a ≡ true → has reached z ≡ true
 along E reached on a [] z p h = subst (λ t. has reached t ≡ true) p h
 along E reached on a (b ∷ over) z p h = along E reached on b over z p.1 (on a b p.0 h)
 
-pub spreads_end : (waits : List Waiting) (blockers : List TxId) (rest : List ℕ) (reached : List TxId) (tx : TxId) → Spreads waits blockers rest reached → position (λ k. is_reached waits reached k) rest ≡ None → (has reached tx ≡ true) ↔ Closes (blocks waits) tx blockers
-spreads_end waits blockers rest reached tx s none = (
+pub spreads_end : (waits : List (ℕ × Waiting)) (blockers : List TxId) (next : ℕ) (reached last : List TxId) (tx : TxId) (is_so : Bool) → Spreads waits blockers next reached → length reached ≤ next → last ≡ reached → is_so ≡ has last tx → IsTrue is_so ↔ Closes (blocks (values waits)) tx blockers
+spreads_end waits blockers next reached last tx is_so s l e is = rw (is, e) (
   λ h. s.sound tx h,
-  λ c. along (blocks waits) reached (closed waits blockers rest reached s none) c.0 c.2.0 tx c.2.1 (s.from c.0 c.1),
+  λ c. along (blocks (values waits)) reached (closed waits blockers next reached s l) c.0 c.2.0 tx c.2.1 (s.from c.0 c.1),
 )
-
--- the same steps at lists that are equal, as calls hand them on
-pub spreads_step : (waits over onto : List Waiting) (blockers : List TxId) (rest rest' : List ℕ) (reached reached' : List TxId) (at place : ℕ) → over ≡ waits → onto ≡ waits → rest' ≡ rest → reached' ≡ reached → Spreads waits blockers rest reached → Some at ≡ position (λ k. is_reached over reached' k) rest' → place ≡ get_or rest at place → Spreads waits blockers (remove rest at) (reached ++ blockers_at onto place)
-spreads_step waits over onto blockers rest rest' reached reached' at place e1 e2 e3 e4 s h is =
-    rw e2 (spreads_on waits blockers rest reached at place s (sym (rw (e1, e3, e4) at h)) is)
-
-pub spreads_stop : (waits over : List Waiting) (blockers : List TxId) (rest rest' : List ℕ) (reached reached' last : List TxId) (tx : TxId) (is_so : Bool) → over ≡ waits → rest' ≡ rest → reached' ≡ reached → last ≡ reached → Spreads waits blockers rest reached → None ≡ position (λ k. is_reached over reached' k) rest' → is_so ≡ has last tx → IsTrue is_so ↔ Closes (blocks waits) tx blockers
-spreads_stop waits over blockers rest rest' reached reached' last tx is_so e1 e3 e4 e5 s h is =
-    rw (is, e5) (spreads_end waits blockers rest reached tx s (sym (rw (e1, e3, e4) at h)))
-
-none_past : (waits : List Waiting) (place : ℕ) → length waits ≤ place → blockers_at waits place ≡ []
-none_past [] place h = refl
-none_past (w ∷ waits) zero h = absurd (omega arith)
-none_past (w ∷ waits) (suc place) h = none_past waits place (omega arith)
-
-pub none_there : (waits : List Waiting) (place : ℕ) (xs : List TxId) → length waits ≤ place → xs ≡ xs ++ blockers_at waits place
-none_there waits place xs h = sym (ap (λ b. xs ++ b) (none_past waits place h) ∙ append-nil xs)

@@ -3,6 +3,7 @@
 
 mod held;
 pub mod laws;
+mod lock_places;
 mod lock_table;
 mod members;
 mod wait;

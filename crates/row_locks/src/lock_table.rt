@@ -1,29 +1,41 @@
 //! The locks that are held.
 ghost use Rattle.std.specs.Prelude.{◌≡◌, List, [], ◌∷◌, ◌++◌, false, not, ◌&&◌, OnOk, OnErr, IfOk};
-ghost use Rattle.std.specs.List.{list_any};
 ghost use Rattle.row_versions.specs.Members.{has, is_distinct, is_none_of};
+ghost use Rattle.ordered_slots.specs.Kept.{kept, value_in};
 ghost use Rattle.row_locks.specs.declared.held.Held.{Held};
 ghost use Rattle.row_locks.specs.Held.{holders_against, with_lock, released, IsTaken, IsReleased};
+ghost use Rattle.row_locks.specs.Inner.Noting.{blocker_in};
 ghost use Rattle.row_locks.specs.Inner.Searching.{is_against};
 
 use crate::held::{Held, is_against};
+use crate::lock_places::LockPlaces;
 use crate::members::has;
+use ordered_slots::OrderedSlots;
 use row_versions::{RowId, TxId};
 use smallvec::SmallVec;
 use sql_trees::Strength;
 use std::alloc::{AllocError, Global};
 use std::marker::Model;
 
-/// The locks that are held, in the order in which they were taken.
+/// The locks that are held, in the order in which they were taken. Each row's and each transaction's are found without a look at the others.
 #[derive(Drop)]
 pub struct LockTable {
-    held: Vec<Held>,
+    alloc: Global,
+    locks: OrderedSlots<Held>,
+    places: LockPlaces,
 }
 
 impl Model for LockTable {
+    ghost use Rattle.std.specs.Prelude.{List};
+    ghost use Rattle.ordered_slots.specs.Kept.{has_no_slot_twice, kept, values};
+    ghost use Rattle.row_locks.specs.declared.held.Held.{Held};
+    ghost use Rattle.row_locks.specs.Inner.Noting.{AreLocksNoted};
+
     ghost Value = { List Held };
 
-    ghost view = { λ s. s.held.items };
+    ghost view = { λ s. values (kept s.locks) };
+
+    ghost invariant = { λ s. has_no_slot_twice (kept s.locks) × AreLocksNoted s.places.by_row s.places.by_tx (kept s.locks) };
 }
 
 impl LockTable {
@@ -32,7 +44,9 @@ impl LockTable {
         ensures { result ≡ [] }
     {
         LockTable {
-            held: Vec::new(alloc),
+            alloc,
+            locks: OrderedSlots::new(alloc),
+            places: LockPlaces::new(alloc),
         }
     }
 
@@ -42,7 +56,12 @@ impl LockTable {
         ensures last { OnOk result (self.new ≡ with_lock self.old (record { row = row; tx = tx; strength = strength })) }
         ensures err { OnErr result (self.new ≡ self.old) }
     {
-        self.held.push(Held { row, tx, strength })?;
+        let lock = Held { row, tx, strength };
+        let slot = self.locks.add(lock)?;
+        if let Err(error) = self.places.note(&lock, slot) {
+            self.locks.remove(slot);
+            return Err(error);
+        }
         Ok(())
     }
 
@@ -58,21 +77,25 @@ impl LockTable {
         // Where nobody is found there is nothing to keep.
         ensures memory { OnErr result (is_none_of (holders_against self.now row tx strength) ≡ false) }
     {
-        let mut found: SmallVec<TxId, 4> = SmallVec::new(*self.held.allocator());
-        for held in &self.held {
-            if is_new_against(held, row, tx, strength, &found) {
-                found.push(held.tx)?;
+        let mut found: SmallVec<TxId, 4> = SmallVec::new(self.alloc);
+        for slot in self.places.of_row(row) {
+            if let Some(holder) = blocker_at(&self.locks, *slot, row, tx, strength, &found) {
+                found.push(holder)?;
             }
         }
         Ok(found)
     }
 
     /// Whether another transaction holds the row in conflict. It takes no memory.
-    #[tactic(auto, using(crate::proofs::Against::some_are_against))]
     pub fn is_blocked(&self, row: RowId, tx: TxId, strength: Strength) -> bool
         ensures { result ≡ not (is_none_of (holders_against self.now row tx strength)) }
     {
-        is_any_against(&self.held, row, tx, strength)
+        for slot in self.places.of_row(row) {
+            if blocker_at(&self.locks, *slot, row, tx, strength, &[]).is_some() {
+                return true;
+            }
+        }
+        false
     }
 
     /// The transaction holds nothing any more. It takes no memory.
@@ -80,15 +103,29 @@ impl LockTable {
         ensures held { IsReleased self.old tx self.new }
         ensures same { self.new ≡ released tx self.old }
     {
-        self.held.retain(|held| held.tx.0 != tx.0);
+        while let Some(slot) = self.places.last_of(tx) {
+            if let Some(lock) = self.locks.remove(slot) {
+                self.places.strike(&lock, slot);
+            }
+        }
     }
 }
 
-/// Whether some lock stands against the request.
-fn is_any_against(held: &[Held], row: RowId, tx: TxId, strength: Strength) -> bool
-    ensures { result ≡ list_any (is_against row tx strength) held.now }
+/// The holder of the lock in the slot, where it stands against the request and isn't found yet.
+fn blocker_at(
+    locks: &OrderedSlots<Held>,
+    slot: usize,
+    row: RowId,
+    tx: TxId,
+    strength: Strength,
+    found: &[TxId],
+) -> Option<TxId>
+    ensures { result ≡ blocker_in row tx strength found.now (value_in (kept locks.now) slot) }
 {
-    held.iter().any(|lock| is_against(lock, row, tx, strength))
+    match locks.get(slot) {
+        Some(held) if is_new_against(held, row, tx, strength, found) => Some(held.tx),
+        _ => None,
+    }
 }
 
 /// Whether the lock stands against the request and its holder isn't found yet.

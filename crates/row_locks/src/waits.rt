@@ -1,13 +1,16 @@
 //! The transactions that wait.
-ghost use Rattle.std.specs.Prelude.{◌≡◌, ◌↔◌, ℕ, IsTrue, true, List, [], ◌∷◌, ◌++◌, OnOk, OnErr, IfOk, filter, map, not, ◌==◌, ◌<◌, length, position, find, option_map};
-ghost use Rattle.std.specs.Option.{option_copied};
-ghost use Rattle.row_versions.specs.Members.{has};
-ghost use Rattle.row_locks.specs.Waiting.{Waiting, is_free, is_wait_of, waits_without, with_blockers};
-ghost use Rattle.row_locks.specs.Inner.Searching.{is_reached, blockers_at};
+ghost use Rattle.std.specs.Prelude.{◌≡◌, ◌↔◌, ℕ, IsTrue, true, List, [], ◌∷◌, ◌++◌, OnOk, OnErr, IfOk, not, find, option_map, slice_get};
+ghost use Rattle.places.specs.Noted.{noted};
+ghost use Rattle.ordered_slots.specs.Kept.{kept};
+ghost use Rattle.row_locks.specs.Waiting.{Waiting, is_free, waits_without, with_blockers};
+ghost use Rattle.row_locks.specs.Inner.Searching.{reach, spread};
 ghost use Rattle.row_locks.specs.Cycles.{Closes, blocks};
 
+use crate::lock_places::last_place;
 use crate::members::has;
 use crate::wait::Wait;
+use ordered_slots::OrderedSlots;
+use places::Places;
 use row_versions::TxId;
 use smallvec::SmallVec;
 use std::alloc::{AllocError, Global};
@@ -17,13 +20,22 @@ use std::marker::Model;
 /// before `add` and waits before `set_blockers`; what is promised here holds without that.
 #[derive(Drop)]
 pub struct Waits {
-    list: Vec<Wait>,
+    alloc: Global,
+    waits: OrderedSlots<Wait>,
+    by_tx: Places,
 }
 
 impl Model for Waits {
+    ghost use Rattle.std.specs.Prelude.{List};
+    ghost use Rattle.ordered_slots.specs.Kept.{has_no_slot_twice, kept, values};
+    ghost use Rattle.row_locks.specs.Waiting.{Waiting};
+    ghost use Rattle.row_locks.specs.Inner.Noting.{AreNoted};
+
     ghost Value = { List Waiting };
 
-    ghost view = { λ s. s.list.items };
+    ghost view = { λ s. values (kept s.waits) };
+
+    ghost invariant = { λ s. has_no_slot_twice (kept s.waits) × AreNoted (λ w. w.tx.0) s.by_tx (kept s.waits) };
 }
 
 impl Waits {
@@ -32,7 +44,9 @@ impl Waits {
         ensures { result ≡ [] }
     {
         Waits {
-            list: Vec::new(alloc),
+            alloc,
+            waits: OrderedSlots::new(alloc),
+            by_tx: Places::new(alloc),
         }
     }
 
@@ -41,7 +55,11 @@ impl Waits {
         ensures ok { OnOk result (self.new ≡ self.old ++ record { tx = tx; blockers = blockers.items } ∷ []) }
         ensures err { OnErr result (self.new ≡ self.old) }
     {
-        self.list.push(Wait { tx, blockers })?;
+        let slot = self.waits.add(Wait { tx, blockers })?;
+        if let Err(error) = self.by_tx.add(tx.0, slot) {
+            self.waits.remove(slot);
+            return Err(error);
+        }
         Ok(())
     }
 
@@ -50,8 +68,8 @@ impl Waits {
         ensures ok { OnOk result (self.new ≡ with_blockers tx blockers.items self.old) }
         ensures err { OnErr result (self.new ≡ self.old) }
     {
-        if let Some(place) = place_of(&self.list, tx) {
-            renew(&mut self.list[place], tx, blockers);
+        if let Some(slot) = first_place(&self.by_tx, tx.0) {
+            self.waits.replace(slot, Wait { tx, blockers });
         }
         Ok(())
     }
@@ -60,7 +78,10 @@ impl Waits {
     pub fn remove(&mut self, tx: TxId)
         ensures { self.new ≡ waits_without tx self.old }
     {
-        self.list.retain(|wait| wait.tx.0 != tx.0);
+        while let Some(slot) = last_place(&self.by_tx, tx.0) {
+            self.waits.remove(slot);
+            self.by_tx.remove(tx.0, slot);
+        }
     }
 
     /// Whether a wait of the transaction for these would close a cycle: it is reached from one of them through the
@@ -68,15 +89,12 @@ impl Waits {
     pub fn closes(&self, tx: TxId, blockers: &[TxId]) -> Result<bool, AllocError>
         ensures { IfOk result (λ yes. IsTrue yes ↔ Closes (blocks self.now) tx blockers.now) }
     {
-        let alloc = *self.list.allocator();
-        let mut reached = Vec::from_slice(alloc, blockers)?;
-        let mut rest = Vec::new(alloc);
-        for place in 0..self.list.len() {
-            rest.push(place)?;
-        }
-        while let Some(at) = next_reached(&self.list, &rest, &reached) {
-            let place = rest.remove(at);
-            spread(&self.list, place, &mut reached)?;
+        let mut reached = Vec::from_slice(self.alloc, blockers)?;
+        let mut next = 0;
+        while next < reached.len() {
+            let waiter = reached[next];
+            spread(&self.waits, self.by_tx.at(waiter.0), &mut reached)?;
+            next += 1;
         }
         Ok(has(&reached, tx))
     }
@@ -85,33 +103,11 @@ impl Waits {
     pub fn earliest_free(&self) -> Option<TxId>
         ensures { result ≡ option_map (λ w. w.tx) (find is_free self.now) }
     {
-        self.list
-            .iter()
+        self.waits
+            .values()
             .find(|wait| is_free(wait))
             .map(|wait| wait.tx)
     }
-}
-
-/// Where the transaction waits.
-fn place_of(list: &[Wait], tx: TxId) -> Option<usize>
-    ensures { result ≡ position (is_wait_of tx) list.now }
-{
-    list.iter().position(|wait| is_of(wait, tx))
-}
-
-/// Makes it a wait for these.
-fn renew(wait: &mut Wait, tx: TxId, blockers: SmallVec<TxId, 4>)
-    ensures { wait.new ≡ record { tx = tx; blockers = blockers.items } }
-{
-    wait.tx = tx;
-    wait.blockers = blockers;
-}
-
-/// Whether it is the transaction's wait.
-fn is_of(wait: &Wait, tx: TxId) -> bool
-    ensures { result ≡ is_wait_of tx wait.now }
-{
-    wait.tx.0 == tx.0
 }
 
 /// Whether nobody is waited for.
@@ -121,30 +117,37 @@ fn is_free(wait: &Wait) -> bool
     wait.blockers.is_empty()
 }
 
-/// Whether the transaction that waits at this place is reached.
-fn is_reached(list: &[Wait], reached: &[TxId], place: usize) -> bool
-    ensures { result ≡ is_reached list.now reached.now place }
+/// Reaches the blockers of the waits in these slots.
+fn spread(
+    waits: &OrderedSlots<Wait>,
+    slots: &[usize],
+    reached: &mut Vec<TxId>,
+) -> Result<(), AllocError>
+    ensures { OnOk result (reached.new.items ≡ spread (kept waits.now) slots.now reached.old.items) }
 {
-    match list.get(place) {
-        Some(wait) => has(reached, wait.tx),
-        None => false,
+    for slot in slots {
+        if let Some(wait) = waits.get(*slot) {
+            reach(&wait.blockers, reached)?;
+        }
     }
+    Ok(())
 }
 
-/// Where among the places that are left there is one whose transaction is reached.
-fn next_reached(list: &[Wait], rest: &[usize], reached: &[TxId]) -> Option<usize>
-    ensures { result ≡ position (λ place. is_reached list.now reached.now place) rest.now }
+/// Adds those of these that aren't reached yet.
+fn reach(blockers: &[TxId], reached: &mut Vec<TxId>) -> Result<(), AllocError>
+    ensures { OnOk result (reached.new.items ≡ reach blockers.now reached.old.items) }
 {
-    rest.iter()
-        .position(|place| is_reached(list, reached, *place))
+    for blocker in blockers {
+        if !has(reached, *blocker) {
+            reached.push(*blocker)?;
+        }
+    }
+    Ok(())
 }
 
-/// Adds the blockers of the wait at this place.
-fn spread(list: &[Wait], place: usize, reached: &mut Vec<TxId>) -> Result<(), AllocError>
-    ensures { OnOk result (reached.new.items ≡ reached.old.items ++ blockers_at list.now place) }
+/// The place that was noted first for the number.
+fn first_place(places: &Places, number: u64) -> Option<usize>
+    ensures { result ≡ slice_get (noted places.now number) 0 }
 {
-    match list.get(place) {
-        Some(wait) => reached.extend_from_slice(&wait.blockers),
-        None => Ok(()),
-    }
+    places.at(number).first().copied()
 }

@@ -1,7 +1,8 @@
 //! A store that keeps the log as one plain list.
-ghost use Rattle.std.specs.Prelude.{◌≡◌, IfOk, ◌+◌};
+ghost use Rattle.std.specs.Prelude.{◌≡◌, ◌↔◌, IfOk, IsTrue, Some, ◌+◌};
 ghost use Rattle.std.specs.List.{list_any};
-ghost use Rattle.row_versions.specs.Log.{Content, empty_content};
+ghost use Rattle.row_versions.specs.declared.write.Fate.TheVariants.{RolledBack};
+ghost use Rattle.row_versions.specs.Log.{Content, empty_content, fate_of};
 ghost use Rattle.row_versions.specs.View.{sees};
 ghost use Rattle.row_versions.specs.Inner.Searching.{replaces, shows, rows_from, is_version, newest_from};
 
@@ -41,6 +42,27 @@ impl ListStore {
             fates: Vec::new(alloc),
             commits: 0,
         }
+    }
+
+    /// All writes in the order made.
+    pub fn log(&self) -> &[Write]
+        ensures { result.now ≡ self.now.log }
+    {
+        &self.log
+    }
+
+    /// Whether the transaction was rolled back.
+    pub fn has_rolled_back(&self, tx: TxId) -> bool
+        ensures { IsTrue result ↔ (fate_of self.now.fates tx ≡ Some RolledBack) }
+    {
+        matches!(self.fates.get(tx.0 as usize), Some(Fate::RolledBack))
+    }
+
+    /// Whether the view sees the write.
+    pub fn sees(&self, view: &View, write: &Write) -> bool
+        ensures { result ≡ sees self.now.fates view.now write.now }
+    {
+        is_seen(&self.fates, view, write)
     }
 }
 

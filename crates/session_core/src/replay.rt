@@ -6,7 +6,8 @@ ghost use Rattle.session_machine.specs.Machine.{Machine, opening, Run};
 ghost use Rattle.session_machine.specs.Engine.{Follows, IsLegal};
 
 use crate::live::Live;
-use row_versions::{ListStore, Versions};
+use chain_store::ChainStore;
+use row_versions::Versions;
 use session_laws::laws::stays_sound;
 use session_machine::{HistItem, Mode};
 use sql_blocks::Block;
@@ -43,7 +44,7 @@ pub fn replays<'a, 't>(
     ensures { IfOk result (λ legal. IsTrue legal ↔ IsLegal (blocks_of blocks.now) count mode history.now) }
 {
     stays_sound();
-    let mut live = Live::new(alloc, count, ListStore::new(alloc))?;
+    let mut live = Live::new(alloc, count, ChainStore::new(alloc))?;
     for item in history {
         if !agrees(&mut live, blocks, mode, item)? {
             return Ok(false);

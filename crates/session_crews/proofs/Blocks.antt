@@ -1,11 +1,11 @@
 -- Blocks one after the other.
-use Rattle.std.proofs.Common.{◌≡◌, ◌∙◌, refl, sym, ap, subst, ℕ, List, [], ◌∷◌, ◌++◌, append-nil, append_assoc, map, Bool, true, false}
+use Rattle.std.proofs.Common.{◌≡◌, ◌∙◌, refl, sym, ap, subst, ℕ, List, [], ◌∷◌, ◌++◌, append-nil, append_assoc, Bool, true, false}
 use Rattle.session_machine.specs.declared.event.Event.{Event}
 use Rattle.session_machine.specs.declared.event.Event.TheVariants.{Launch, Step}
 use Rattle.session_machine.specs.declared.reply.HistItem.{HistItem}
 use Rattle.session_machine.specs.declared.reply.Reply.{Reply}
 use Rattle.session_seats.specs.declared.free.BlockState.{BlockState}
-use Rattle.session_seats.specs.declared.free.BlockState.TheVariants.{GoesOn, Ended, Stopped}
+use Rattle.session_seats.specs.declared.free.BlockState.TheVariants.{GoesOn, Ended}
 use Rattle.session_seats.specs.Free.{state_at, stops, is_over}
 use Rattle.session_seats.specs.FreeRuns.{StepsTo, RunsBlock, RunInTurn, Does, DoesAll, launches_in}
 

@@ -1,16 +1,15 @@
 -- A free run goes on, event by event.
-use Rattle.std.proofs.Common.{◌≡◌, ◌∙◌, refl, sym, ap, subst, ℕ, ◌+◌, ◌-◌, List, [], ◌∷◌, ◌++◌, append-nil, append_assoc, length, Option, Some, None, Bool, true, false, arith}
+use Rattle.std.proofs.Common.{◌≡◌, ◌∙◌, refl, sym, ap, ◌-◌, List, [], ◌∷◌, ◌++◌, append-nil, append_assoc, length, Option, Some, None, true, arith}
 use Rattle.std.specs.Prelude.{Result, Ok, Err, is_some, slice_get}
 use Rattle.std.proofs.lemmas.List.{length_push}
 use Rattle.session_machine.specs.declared.event.Event.{Event}
-use Rattle.session_machine.specs.declared.event.Event.TheVariants.{Launch, Step, Leave}
 use Rattle.session_machine.specs.declared.fault.Refusal.{Refusal}
 use Rattle.session_machine.specs.declared.fault.EngineFault.{EngineFault}
 use Rattle.session_machine.specs.declared.fault.EngineFault.TheVariants as engine_faults
 use Rattle.session_machine.specs.declared.reply.HistItem.{HistItem}
 use Rattle.session_machine.specs.declared.reply.Reply.{Reply}
 use Rattle.session_machine.specs.Machine.{Machine, Next, next}
-use Rattle.session_machine.specs.Engine.{Engine, EngineAnswered, fault_of, engine_after, engine_step, engine_answered}
+use Rattle.session_machine.specs.Engine.{Engine, EngineAnswered, fault_of, engine_step, engine_answered}
 use Rattle.session_seats.specs.declared.fault.ThreadFault.{ThreadFault}
 use Rattle.session_seats.specs.declared.fault.ThreadFault.TheVariants as thread_faults
 use Rattle.session_seats.specs.Acts.{Acted, IsRunOf, NotActed, RefusesEvent}

@@ -5,3 +5,4 @@ pub mod Going
 pub mod Blocks
 pub mod Scripts
 pub mod Whole
+pub mod Lists

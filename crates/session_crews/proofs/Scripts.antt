@@ -1,20 +1,16 @@
 -- The sessions' part of a free run, event by event.
-use Rattle.std.proofs.Common.{◌≡◌, ◌≢◌, ◌∙◌, refl, sym, ap, subst, ℕ, zero, suc, ◌+◌, ◌-◌, ◌<◌, ◌⊎◌, inl, inr, List, [], ◌∷◌, ◌++◌, append-nil, append_assoc, length, Option, Some, None, Bool, true, false, cond, eqb, get_or, arith}
-use Rattle.std.specs.Prelude.{is_some, slice_get, slice_set, nat_eq, IfSome}
-use Rattle.std.specs.List.{filter}
+use Rattle.std.proofs.Common.{◌≡◌, ◌∙◌, refl, sym, ap, subst, ℕ, zero, suc, ◌+◌, ◌-◌, ◌⊎◌, inl, inr, List, [], ◌∷◌, ◌++◌, append-nil, append_assoc, length, Option, Some, None, Bool, true, false, cond, eqb, get_or, arith}
+use Rattle.std.specs.Prelude.{is_some, slice_get, slice_set, nat_eq}
 use Rattle.std.proofs.lemmas.List.Elements.{filter-append}
 use Rattle.std.proofs.lemmas.Bool.Decides.{eqb_tells}
 use Rattle.std.proofs.lemmas.Option.{slice_get_within, slice_get-get_or}
 use Rattle.session_machine.specs.declared.event.Event.{Event}
-use Rattle.session_machine.specs.declared.event.Event.TheVariants.{Launch, Step, Leave}
 use Rattle.session_machine.specs.declared.reply.HistItem.{HistItem}
-use Rattle.session_machine.specs.declared.reply.Reply.{Reply}
 use Rattle.session_machine.specs.Machine.{session_of}
 use Rattle.session_machine.specs.Engine.{Engine}
 use Rattle.session_seats.specs.declared.fault.ThreadFault.{ThreadFault}
-use Rattle.session_seats.specs.Acts.{Acted, IsRunOf, NotActed}
-use Rattle.session_seats.specs.Free.{script_of}
-use Rattle.session_seats.specs.FreeRuns.{Does, DoesAll, DoScripts, script_events}
+use Rattle.session_seats.specs.Acts.{Acted, NotActed}
+use Rattle.session_seats.specs.FreeRuns.{Does, DoesAll, script_events}
 use Rattle.session_seats.specs.Seats.{SeatOf, items_of}
 use Rattle.session_crews.specs.Inner.FreeRuns.{ProgressOf, IsAt, IsNextOf, RunsScripts, AreAtStart, HaveDone, AllDone, next_event, left_after}
 use Rattle.session_crews.proofs.Ordering.{acted_history, not_acted_history}

@@ -1,7 +1,8 @@
-//! A thread for each session, over any engine behind one lock: what each session's thread does, in a run whose events a
-//! driver orders and in a free one.
+//! A thread for each session, over any engine behind one lock: what each session's thread does, in runs whose events a
+//! driver orders and that are served side by side, and in a free run.
 #![tactic(auto)]
 
+mod crew;
 mod directed;
 mod driven;
 mod free;
@@ -11,7 +12,8 @@ mod joined;
 mod progress;
 mod shared;
 
-pub use directed::run_ordered;
+pub use directed::{Ended, run_crew};
 pub use driven::Drives;
 pub use free::run_scripts;
 pub use joined::Joined;
+pub use shared::Opened;

@@ -107,6 +107,13 @@ impl<'a, 't> Catalog<'a, 't> {
         )
     }
 
+    /// How many tables were made.
+    pub fn len(&self) -> usize
+        ensures { result ≡ length self.now.tables }
+    {
+        self.tables.len()
+    }
+
     /// The columns of the table at the place.
     pub fn columns(&self, place: usize) -> &'a [Column<'t>]
         requires { place < length self.now.tables }

@@ -21,6 +21,7 @@ ghost use Rattle.session_machine.specs.Targets.{seen_by};
 ghost use Rattle.session_machine.specs.Machine.{empty_database, visible_to};
 
 use crate::catalog::Catalog;
+use crate::keys::learn_keys;
 use crate::work::{Surroundings, Work};
 use iso_lexer::Name;
 use row_locks::LockTable;
@@ -147,6 +148,8 @@ impl<'a, 't, V: Versions> Database<'a, 't, V> {
     pub fn add_table(&mut self, made: &'a CreateTable<'t>, by: TxId) -> Result<(), AllocError>
         ensures { OnOk result (self.new ≡ record self.old { catalog = with_table self.old.catalog (create_of made.now) by }) }
     {
+        let table = TableId(self.catalog.len() as u64);
+        learn_keys(&mut self.keys, table, &made.keys)?;
         self.catalog.add(made, by)
     }
 

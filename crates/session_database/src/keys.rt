@@ -1,6 +1,6 @@
 //! Keys: what a row meets that is about to be written (PostgreSQL manual, 5.5.3, and the page of INSERT, "ON CONFLICT Clause").
 
-ghost use Rattle.std.specs.Prelude.{◌≡◌, ◌<◌, ◌==◌, ◌++◌, ◌∷◌, List, length, map, option_map, IfOk};
+ghost use Rattle.std.specs.Prelude.{◌≡◌, ◌≢◌, ◌<◌, ◌==◌, ◌++◌, ◌∷◌, List, None, length, map, option_map, IfOk, OnErr};
 ghost use Rattle.std.specs.List.{list_any};
 ghost use Rattle.sql_trees.specs.Statements.{column_of, key_name, key_of, name_of};
 ghost use Rattle.sql_trees.specs.Inner.KeyNames.{underscored};
@@ -9,7 +9,7 @@ ghost use Rattle.row_versions.specs.declared.write.Seen.{Seen as SeenFacts};
 ghost use Rattle.row_versions.specs.Log.{IsOpen};
 ghost use Rattle.row_locks.specs.Cycles.{closes};
 ghost use Rattle.update_recheck.specs.Settling.{SameMembers};
-ghost use Rattle.unique_keys.specs.Checks.{NamesBlockers, found_of, key_found};
+ghost use Rattle.unique_keys.specs.Checks.{KeyIsHeld, NamesBlockers, found_of, key_found};
 ghost use Rattle.session_machine.specs.Rows.{columns_in, does_nothing, is_known, meet_key};
 ghost use Rattle.session_machine.specs.Targets.{asked_key, names_at};
 ghost use Rattle.session_machine.specs.Inner.Pieces.{held_by_others};
@@ -28,7 +28,7 @@ use smallvec::SmallVec;
 use sql_trees::{Column, Key, Level};
 use sql_values::Row;
 use std::alloc::{AllocError, Global};
-use unique_keys::Found;
+use unique_keys::{Found, KeyIndex};
 
 /// The name of the column at the place, behind an underscore, behind these bytes.
 fn push_column(
@@ -80,6 +80,20 @@ fn key_name(
     Ok(text)
 }
 
+/// From now on the index finds the rows of the table by these keys.
+pub(crate) fn learn_keys(
+    index: &mut KeyIndex,
+    table: TableId,
+    keys: &[Key],
+) -> Result<(), AllocError>
+    ensures { index.new ≡ index.old }
+{
+    for key in keys {
+        index.learn(table, &key.columns)?;
+    }
+    Ok(())
+}
+
 /// Whether one of the versions stands at the place.
 fn has_place(versions: &[Seen], place: u64) -> bool
     ensures { result ≡ list_any (λ (s : SeenFacts). s.place == place) versions.now }
@@ -124,6 +138,7 @@ impl<'a, 't, V: Versions> Database<'a, 't, V> {
     ) -> Result<Found, AllocError>
         requires opened { IsOpen self.now.content work.now.t.tx }
         ensures found { IfOk result (λ f. key_found self.now.content (record { 0 = work.now.table }) work.now.t.tx except values.now (key_of key.now).columns ≡ found_of f) }
+        ensures memory { OnErr result (key_found self.now.content (record { 0 = work.now.table }) work.now.t.tx except values.now (key_of key.now).columns ≡ KeyIsHeld) }
         ensures named { IfOk result (λ f. NamesBlockers (blockers self.now (Request.Key (asked_key work.now values.now (key_of key.now))) work.now.t.tx) f) }
     {
         let table = TableId(work.place as u64);
@@ -227,7 +242,9 @@ impl<'a, 't, V: Versions> Database<'a, 't, V> {
     ) -> Result<Option<Meets<'t>>, AllocError>
         requires opened { IsOpen self.now.content work.now.t.tx }
         requires within { work.now.table < length self.now.catalog.tables }
-        ensures { IfOk result (λ met. option_map meets_of met ≡ meet_key self.now work.now (name_of name.now) do_nothing values.now except (key_of key.now)) }
+        ensures met { IfOk result (λ met. option_map meets_of met ≡ meet_key self.now work.now (name_of name.now) do_nothing values.now except (key_of key.now)) }
+        // Where it meets nothing there is nothing to keep.
+        ensures memory { OnErr result (meet_key self.now work.now (name_of name.now) do_nothing values.now except (key_of key.now) ≢ None) }
     {
         match self.find_key(work, key, values, except)? {
             Found::Free => Ok(None),

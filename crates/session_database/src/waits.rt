@@ -1,6 +1,6 @@
 //! The waits of the present state.
 
-ghost use Rattle.std.specs.Prelude.{◌≡◌, ◌||◌, ◌&&◌, true, IfOk, OnOk};
+ghost use Rattle.std.specs.Prelude.{◌≡◌, ◌||◌, ◌&&◌, true, IfOk, OnErr, OnOk};
 ghost use Rattle.row_versions.specs.declared.names.TxId.{TxId as TxFacts};
 ghost use Rattle.row_locks.specs.Laws.{SamePairs};
 ghost use Rattle.row_locks.specs.Cycles.{blocks};
@@ -64,8 +64,9 @@ impl<'a, 't, V: Versions> Database<'a, 't, V> {
         strength: Strength,
         policy: Policy,
     ) -> Result<Waits, AllocError>
-        ensures { IfOk result (λ waits. is_blocked self.now (Request.Row row strength) work.now.t.tx ≡ true → policy ≡ Policy.Wait
+        ensures told { IfOk result (λ waits. is_blocked self.now (Request.Row row strength) work.now.t.tx ≡ true → policy ≡ Policy.Wait
             → SamePairs waits (waits_in self.now work.now.around.sessions)) }
+        ensures memory { OnErr result (is_blocked self.now (Request.Row row strength) work.now.t.tx ≡ true) }
     {
         match policy {
             Policy::Wait if self.locks.is_blocked(row, work.by.tx, strength) => {

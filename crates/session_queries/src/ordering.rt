@@ -1,8 +1,11 @@
 //! The rows that a SELECT takes, in the order in which it shows them.
 
-ghost use Rattle.std.specs.Prelude.{◌≡◌, ◌<◌, All, IfOk, IsErrOf, length, map, slice_index_or, true};
+ghost use Rattle.std.specs.Prelude.{◌≡◌, ◌<◌, ◌⊎◌, All, Any, IfOk, IsErrOf, IsSomeAnd, Ok, length, map, option_map, slice_index_or, true, vec_len};
 ghost use Rattle.sql_trees.specs.Statements.{column_of, item_of, order_of, select_of};
 ghost use Rattle.sql_trees.specs.Statements.{OrderTree};
+ghost use Rattle.sql_trees.specs.Trees.{tree_of};
+ghost use Rattle.sql_values.specs.Expressions.{passes};
+ghost use Rattle.sql_values.specs.Growing.{may_grow};
 ghost use Rattle.sql_values.specs.Sorting.{can_sort};
 ghost use Rattle.session_queries.specs.Fronts.{AnswersList};
 ghost use Rattle.query_results.specs.Ordering.{rows_at};
@@ -83,6 +86,7 @@ fn ordered<'a>(
     requires width { All (λ row. length row.now ≡ length columns.now) rows.now }
     requires within { All (λ p. p < length rows.now) places.items }
     ensures places { AnswersList result (ordered columns.now (map item_of select.now.items.items) (map order_of select.now.order.items) (map (λ row. row.now) rows.now) places.items) }
+    ensures memory { IsErrOf result ValueFault.Memory → 0 < vec_len select.now.order }
     ensures within { IfOk result (λ places. All (λ p. p < length rows.now) places.items) }
 {
     if select.order.is_empty() {
@@ -102,6 +106,9 @@ pub fn taken_places<'a>(
 ) -> Result<Vec<usize>, ValueFault<'a>>
     requires { All (λ row. length row.now ≡ length columns.now) rows.now }
     ensures places { AnswersList result (taken (select_of select.now) (map column_of columns.now) (map (λ row. row.now) rows.now)) }
+    // A condition may grow, and so does the list with each row that passes; keys are kept until the rows are sorted.
+    ensures memory { IsErrOf result ValueFault.Memory → IsSomeAnd select.now.filter (λ expr. may_grow (tree_of expr) ≡ true)
+        ⊎ (Any (λ row. passes (option_map tree_of select.now.filter) (cols_of (map column_of columns.now)) row.now ≡ Ok true) rows.now ⊎ 0 < vec_len select.now.order) }
     ensures within { IfOk result (λ places. All (λ p. p < length rows.now) places.items) }
 {
     let columns = known(columns);

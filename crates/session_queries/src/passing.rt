@@ -62,6 +62,7 @@ pub fn passing_places<'a>(
 ) -> Result<Vec<usize>, ValueFault<'a>>
     requires { All (λ row. length row.now ≡ length columns.now) rows.now }
     ensures places { AnswersList result (passing (cols_of (map column_of columns.now)) (option_map tree_of filter.now) (map (λ row. row.now) rows.now)) }
+    ensures memory { IsErrOf result ValueFault.Memory → IsSomeAnd filter.now (λ expr. may_grow (tree_of expr) ≡ true) ⊎ Any (λ row. passes (option_map tree_of filter.now) (cols_of (map column_of columns.now)) row.now ≡ Ok true) rows.now }
     ensures within { IfOk result (λ places. All (λ p. p < length rows.now) places.items) }
 {
     let columns = known(columns);

@@ -6,15 +6,15 @@ ghost use Rattle.session_machine.specs.declared.event.Order.{Order as Given};
 
 use std::marker::Brand;
 
-/// The orders that a run is given, which are its driver's.
-pub trait Ordering {
-    ghost orders: { List Item → Given };
+/// The orders that each run of a crew is given, by its place: they are its driver's.
+pub trait Orderings {
+    ghost orders: { ℕ → List Item → Given };
 }
 
-impl Ordering for Brand {
+impl Orderings for Brand {
     ghost use Rattle.session_machine.specs.declared.event.Order.TheVariants.{Stop};
 
-    ghost orders = { λ items. Stop };
+    ghost orders = { λ place items. Stop };
 }
 
 /// The sessions' part of a free run: the engine at which their threads began, and the script of each.

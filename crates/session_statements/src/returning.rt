@@ -1,6 +1,6 @@
 //! What a statement answers for its rows: RETURNING (PostgreSQL manual, 6.4), and a locking SELECT's items.
 
-ghost use Rattle.std.specs.Prelude.{◌≡◌, ◌<◌, Some, length, map, option_map, IfOk};
+ghost use Rattle.std.specs.Prelude.{◌≡◌, ◌<◌, Some, length, map, option_map, is_some, true, IfOk, OnErr};
 ghost use Rattle.std.specs.Bool.{OnTrue};
 ghost use Rattle.sql_trees.specs.Statements.{column_of, item_of, items_of};
 ghost use Rattle.query_results.specs.Results.{IsEven};
@@ -50,8 +50,9 @@ pub(crate) fn returned<'a, 't, V: Versions>(
 ) -> Result<Visited<'t>, AllocError>
     requires within { work.now.table < length db.now.catalog.tables }
     requires even { length row.now ≡ length (columns_in db.now work.now) }
-    ensures { (after : DatabaseFacts) → after.catalog ≡ db.now.catalog →
+    ensures shown { (after : DatabaseFacts) → after.catalog ≡ db.now.catalog →
         IfOk result (λ v. shows work.now (option_map items_of items.now) after row.now ≡ visit_of after v) }
+    ensures memory { OnErr result (is_some items.now ≡ true) }
 {
     match items {
         Some(items) => show(db, work, items, row),
@@ -85,7 +86,8 @@ pub(crate) fn answer<'t>(
     items: Option<&Vec<Item<'t>>>,
     rows: Vec<Row>,
 ) -> Result<Outcome<'t>, AllocError>
-    ensures { IfOk result (λ outcome. outcome ≡ answer (map column_of columns.now) (option_map (λ is. items_of is.now) items.entry) rows.items) }
+    ensures outcome { IfOk result (λ outcome. outcome ≡ answer (map column_of columns.now) (option_map (λ is. items_of is.now) items.entry) rows.items) }
+    ensures memory { OnErr result (is_some items.entry ≡ true) }
 {
     match items {
         Some(items) => {

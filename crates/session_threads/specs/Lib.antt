@@ -1,2 +1,4 @@
 pub mod Seats
 pub mod Closing
+pub mod Crews
+pub mod Inner

@@ -10,7 +10,7 @@ mod free;
 
 pub use acting::act;
 pub use closing::{Closed, close};
-pub use directed::run_directed;
+pub use directed::{Run, run_directed, run_each};
 pub use driver::Driver;
 pub use free::run_free;
 pub use session_machine::Order;

@@ -9,8 +9,8 @@ use Rattle.std.specs.Global.{Vec}
 use Rattle.spec_parser.specs.declared.tree.Entry.{Entry}
 use Rattle.spec_parser.specs.Trees.{EntryTree}
 use Rattle.spec_files.specs.declared.draft.Draft.{Draft}
-use Rattle.spec_files.specs.Drafts.{entries_of}
-use Rattle.spec_files.specs.Inner.Drafts.{listed, lists_of, to_come}
+use Rattle.spec_files.specs.Drafts.{entries_of, listed}
+use Rattle.spec_files.specs.Inner.Drafts.{lists_of, to_come}
 
 pub same_lists : (drafts : List Draft) → map entries_of drafts ≡ lists_of (map listed drafts)
 same_lists [] = refl

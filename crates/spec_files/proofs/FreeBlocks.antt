@@ -1,12 +1,12 @@
 -- Of blocks that ran one after the other: what they were given, where their segments lie, and how they ended.
-use Rattle.std.proofs.Common.{◌≡◌, ◌∙◌, refl, sym, ap, subst, ℕ, zero, suc, ◌+◌, ◌-◌, ◌==◌, Bool, true, false, true≢false, cond, not, ◌&&◌, ◌||◌, List, [], ◌∷◌, ◌++◌, length, map, take, drop, append_assoc, length-append, arith}
+use Rattle.std.proofs.Common.{◌≡◌, ◌∙◌, refl, sym, ap, subst, ℕ, zero, suc, ◌+◌, ◌-◌, Bool, true, false, true≢false, cond, not, ◌&&◌, List, [], ◌∷◌, ◌++◌, length, take, append_assoc, length-append, arith}
 use Rattle.std.specs.Prelude.{Option, Some, slice_get, slice_range, if◌then◌else◌}
-use Rattle.std.specs.List.{filter, list_any}
+use Rattle.std.specs.List.{list_any}
 use Rattle.std.specs.Option.{option_map_or}
 use Rattle.std.proofs.lemmas.Bool.{eq-eqb, or_from, or_left, or_right, or_parts}
 use Rattle.std.proofs.lemmas.List.{take_at, drop_at}
 use Rattle.session_machine.specs.declared.event.Event.{Event}
-use Rattle.session_machine.specs.declared.event.Event.TheVariants.{Launch, Step, Leave}
+use Rattle.session_machine.specs.declared.event.Event.TheVariants.{Launch, Step}
 use Rattle.session_machine.specs.declared.reply.Outcome.{Outcome}
 use Rattle.session_machine.specs.declared.reply.Outcome.TheVariants.{Launched, Done, Rows, Waits, Failed, Left}
 use Rattle.session_machine.specs.declared.reply.Reply.{Reply}
@@ -19,7 +19,7 @@ use Rattle.session_seats.specs.FreeRuns.{StepsTo, RunsBlock, RunInTurn}
 use Rattle.report_lines.specs.Starts.{is_order, segment_start, ends_in}
 use Rattle.report_lines.specs.Due.{segment, is_over, went_well}
 use Rattle.permutation_plans.specs.FreeRegular.{given, item_stops, stops as is_stop}
-use Rattle.permutation_plans.proofs.Replied.{AllEndSo, EndsSo}
+use Rattle.permutation_plans.proofs.Replied.{AllEndSo}
 
 -- ---- what was given
 

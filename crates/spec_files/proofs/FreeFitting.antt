@@ -1,10 +1,10 @@
 -- A closed free run whose threads met no fault launches what the free run of its spec launches.
-use Rattle.std.proofs.Common.{◌≡◌, ◌∙◌, refl, sym, ap, subst, ℕ, zero, suc, ◌+◌, ◌-◌, ◌<◌, ◌==◌, inl, inr, Bool, true, false, cond, not, ◌&&◌, ◌||◌, List, [], ◌∷◌, ◌++◌, length, map, take, drop, append_assoc, append-nil, length-append, arith}
-use Rattle.std.specs.Prelude.{Option, Some, None, slice_get, slice_range, if◌then◌else◌}
+use Rattle.std.proofs.Common.{◌≡◌, ◌∙◌, refl, sym, ap, subst, ℕ, zero, suc, ◌+◌, ◌-◌, ◌<◌, ◌==◌, inl, inr, Bool, true, false, cond, not, ◌||◌, List, [], ◌∷◌, ◌++◌, length, map, take, drop, append_assoc, append-nil, length-append, arith}
+use Rattle.std.specs.Prelude.{Some, None, slice_get, slice_range, if◌then◌else◌}
 use Rattle.std.proofs.lemmas.Bool.{and_from, and_parts, eq-eqb, ne_eqb, eqb-true}
-use Rattle.std.proofs.lemmas.List.{take_at, drop_at, length-map}
+use Rattle.std.proofs.lemmas.List.{drop_at, length-map}
 use Rattle.session_machine.specs.declared.event.Event.{Event}
-use Rattle.session_machine.specs.declared.event.Event.TheVariants.{Launch, Step, Leave}
+use Rattle.session_machine.specs.declared.event.Event.TheVariants.{Launch, Leave}
 use Rattle.session_machine.specs.declared.event.Mode.{Mode}
 use Rattle.session_machine.specs.declared.reply.Reply.{Reply}
 use Rattle.session_machine.specs.declared.reply.HistItem.{HistItem}
@@ -14,12 +14,12 @@ use Rattle.session_seats.specs.declared.free.BlockState.{BlockState}
 use Rattle.session_seats.specs.declared.free.BlockState.TheVariants.{Ended, Stopped}
 use Rattle.session_seats.specs.declared.free.FreePlan.{FreePlan}
 use Rattle.session_seats.specs.Free.{script_of, scripts_in}
-use Rattle.session_seats.specs.FreeRuns.{StepsTo, RunsBlock, RunInTurn, Does, DoesAll, IsCutShort, IsWholeRun, FitsPlan}
+use Rattle.session_seats.specs.FreeRuns.{StepsTo, RunsBlock, RunInTurn, Does, DoesAll, IsWholeRun, FitsPlan}
 use Rattle.report_lines.specs.declared.history.PlannedLaunch.{PlannedLaunch}
 use Rattle.report_lines.specs.Starts.{is_order}
 use Rattle.report_lines.specs.Due.{went_well}
 use Rattle.permutation_plans.specs.FreeLaunches.{FreeLaunches, scripts_of}
-use Rattle.permutation_plans.specs.FreeRegular.{given, events_of, launches_in, script_events, AreGiven, between, items_of, ends_each, EachEnds, AreScriptsGiven, IsWhole, IsStopped, IfWell, FitsFrom, FreeFits}
+use Rattle.permutation_plans.specs.FreeRegular.{given, events_of, launches_in, script_events, AreGiven, between, items_of, ends_each, EachEnds, IsWhole, IsStopped, IfWell, FitsFrom, FreeFits}
 use Rattle.permutation_plans.proofs.Replied.{AllEndSo, EndsSo, legal_ends}
 use Rattle.spec_files.specs.FreeRuns.{pair_of}
 use Rattle.spec_files.proofs.FreeBlocks.{given_append, given_order, given_none, is_given, is_step, block_given, Begins, turns_begin, middle, segment_is, ended_reply, well, ill, stopped}

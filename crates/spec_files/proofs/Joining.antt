@@ -8,52 +8,19 @@ use Rattle.spec_parser.specs.declared.tree.Entry.{Entry}
 use Rattle.spec_files.specs.declared.draft.Draft.{Draft}
 use Rattle.spec_files.specs.declared.side_by_side.Coming.{Coming}
 use Rattle.spec_files.specs.declared.side_by_side.Coming.TheVariants.{There}
-use Rattle.spec_files.specs.Inner.Drafts.{listed}
-use Rattle.spec_files.specs.Inner.Coming.{all_entries, coming_entries, AreDrafts, IsComing, RanEach, RunsAny}
+use Rattle.spec_files.specs.Drafts.{AreDrafts, listed}
+use Rattle.spec_files.specs.Inner.Coming.{all_entries, coming_entries, IsComing}
 
 of_one : {X : Type 0} (P : X → Type 0) (x : X) → P x → All P (x ∷ [])
 of_one P x p zero d lt = p
 of_one P x p (suc k) d lt = absurd (omega (arith, lt))
 
-ran_one_more : (post : Vec Entry → Draft → Type 0) (taken : List (Vec Entry)) (drafts : List Draft) (entries : Vec Entry) (draft : Draft)
-    → RanEach post taken drafts → post entries draft → RanEach post (taken ++ entries ∷ []) (drafts ++ draft ∷ [])
-ran_one_more post [] [] entries draft ran is = (is, tt)
-ran_one_more post [] (d ∷ ds) entries draft ran is = absurd ran
-ran_one_more post (e ∷ es) [] entries draft ran is = absurd ran
-ran_one_more post (e ∷ es) (d ∷ ds) entries draft ran is = (ran.0, ran_one_more post es ds entries draft ran.1 is)
-
-pub ran_on : (post : Vec Entry → Draft → Type 0) (taken : List (Vec Entry)) (drafts now : List Draft) (entries : Vec Entry) (draft : Draft)
-    → RanEach post taken drafts → post entries draft → now ≡ drafts ++ draft ∷ [] → RanEach post (taken ++ entries ∷ []) now
-ran_on post taken drafts now entries draft ran is pushed = subst (RanEach post (taken ++ entries ∷ [])) (sym pushed) (ran_one_more post taken drafts entries draft ran is)
-
-all_given : (pre : Vec Entry → Type 0) (post : Vec Entry → Draft → Type 0) (of_lent : Draft → Type 0) (taken : List (Vec Entry)) (drafts : List Draft)
-    → RunsAny pre post of_lent → RanEach post taken drafts → All of_lent drafts
-all_given pre post of_lent [] [] runs ran k d lt = absurd (omega (arith, lt))
-all_given pre post of_lent [] (d ∷ ds) runs ran k or lt = absurd ran
-all_given pre post of_lent (e ∷ es) [] runs ran k or lt = absurd ran
-all_given pre post of_lent (e ∷ es) (d ∷ ds) runs ran zero or lt = runs.given e d ran.0
-all_given pre post of_lent (e ∷ es) (d ∷ ds) runs ran (suc k) or lt = all_given pre post of_lent es ds runs ran.1 k or (omega (arith, lt))
-
-all_listed : (pre : Vec Entry → Type 0) (post : Vec Entry → Draft → Type 0) (of_lent : Draft → Type 0) (taken : List (Vec Entry)) (drafts : List Draft)
-    → RunsAny pre post of_lent → RanEach post taken drafts → map listed drafts ≡ taken
-all_listed pre post of_lent [] [] runs ran = refl
-all_listed pre post of_lent [] (d ∷ ds) runs ran = absurd ran
-all_listed pre post of_lent (e ∷ es) [] runs ran = absurd ran
-all_listed pre post of_lent (e ∷ es) (d ∷ ds) runs ran =
-    ap (λ (x : Vec Entry). x ∷ map listed ds) (runs.entries e d ran.0) ∙ ap (λ (xs : List (Vec Entry)). e ∷ xs) (all_listed pre post of_lent es ds runs ran.1)
-
--- those that ran, one after the other, are drafts of what is lent
-pub ran_are_drafts : (pre : Vec Entry → Type 0) (post : Vec Entry → Draft → Type 0) (of_lent : Draft → Type 0) (taken : List (Vec Entry)) (drafts : Vec Draft)
-    → RunsAny pre post of_lent → RanEach post taken drafts.items → AreDrafts of_lent taken drafts
-ran_are_drafts pre post of_lent taken drafts runs ran =
-    record { given = all_given pre post of_lent taken drafts.items runs ran; entries = all_listed pre post of_lent taken drafts.items runs ran }
-
 -- so are those that a thread ran, which was told what was lent and taken
-pub kept : {L : Type 0} (gives : L → Draft → Type 0) (pre : Vec Entry → Type 0) (post : Vec Entry → Draft → Type 0) (lent lent_told : L) (taken taken_told : Vec (Vec Entry)) (drafts : Vec Draft)
-    → lent_told ≡ lent → taken_told ≡ taken → RunsAny pre post (gives lent) → RanEach post taken.items drafts.items → AreDrafts (gives lent_told) taken_told.items drafts
-kept {L = L} gives pre post lent lent_told taken taken_told drafts its own runs each =
+pub kept : {L : Type 0} (gives : L → Draft → Type 0) (lent lent_told : L) (taken taken_told : Vec (Vec Entry)) (drafts : Vec Draft)
+    → lent_told ≡ lent → taken_told ≡ taken → AreDrafts (gives lent) taken.items drafts → AreDrafts (gives lent_told) taken_told.items drafts
+kept {L = L} gives lent lent_told taken taken_told drafts its own are =
     subst (λ (l : L). AreDrafts (gives l) taken_told.items drafts) (sym its)
-    (subst (λ (v : Vec (Vec Entry)). AreDrafts (gives lent) v.items drafts) (sym own) (ran_are_drafts pre post (gives lent) taken.items drafts runs each))
+    (subst (λ (v : Vec (Vec Entry)). AreDrafts (gives lent) v.items drafts) (sym own) are)
 
 -- those that were begun, and those that are still to begin
 pub record BegunSoFar {L : Type 0} (gives : L → Draft → Type 0) (lent : L) (begun : List (Coming L)) (behind taken : List (Vec Entry)) : Type 0 where

@@ -13,15 +13,15 @@ use Rattle.spec_files.specs.declared.fault.RunFault.{RunFault}
 use Rattle.spec_files.specs.declared.fault.RunFault.TheVariants as faults
 use Rattle.spec_files.specs.declared.file.SpecFile.{SpecFile}
 use Rattle.spec_files.specs.Begun.{Begun, FreeSays, Untouched}
-use Rattle.spec_files.specs.Drafts.{IsDraft}
+use Rattle.spec_files.specs.Drafts.{AreDrafts, HasRoomFor, IsDraft}
 use Rattle.spec_files.specs.FreeRuns.{IsFreeTold}
 use Rattle.spec_files.specs.Runs.{is_of_one, has_broken, has_ended}
 
--- it may be called with a file and the entries of any permutation, and answers the draft of that permutation
-pub record RunsEach (pre : Bor SpecFile → Vec Entry → Type 0) (post : Bor SpecFile → Vec Entry → Draft → Type 0) : Type 0 where
-  pub accepts : (file : Bor SpecFile) (entries : Vec Entry) → Stands (spec_view file.now.spec) → pre file entries
-  pub drafts : (file : Bor SpecFile) (entries : Vec Entry) (draft : Draft) → post file entries draft → IsDraft (spec_view file.now.spec) (blocks_of file.now.blocks.items) draft
-  pub entries : (file : Bor SpecFile) (entries : Vec Entry) (draft : Draft) → post file entries draft → draft.entries ≡ entries
+-- it may be called with a file, the entries of some of its permutations, and room for their drafts, and answers these drafts in the same order
+pub record RunsEach (pre : Bor SpecFile → Vec (Vec Entry) → Vec Draft → Type 0) (post : Bor SpecFile → Vec (Vec Entry) → Vec Draft → Vec Draft → Type 0) : Type 0 where
+  pub accepts : (file : Bor SpecFile) (taken : Vec (Vec Entry)) (room : Vec Draft) → Stands (spec_view file.now.spec) → HasRoomFor room taken.items → pre file taken room
+  pub drafts : (file : Bor SpecFile) (taken : Vec (Vec Entry)) (room drafts : Vec Draft) → post file taken room drafts
+      → AreDrafts (IsDraft (spec_view file.now.spec) (blocks_of file.now.blocks.items)) taken.items drafts
 
 module _ {W N : Type 0} (sink : Sink W) (noted : Sink N) where
   -- a free run of the spec is told, or begun, or none of it is written

@@ -6,8 +6,7 @@ ghost use Rattle.sql_blocks.specs.Blocks.{blocks_of};
 ghost use Rattle.spec_parser.specs.Trees.{entry_view, spec_view};
 ghost use Rattle.spec_parser.specs.Stands.{Stands};
 ghost use Rattle.permutation_lists.specs.Permutations.{permutations_of};
-ghost use Rattle.spec_files.specs.Inner.Coming.{AreDrafts};
-ghost use Rattle.spec_files.specs.Drafts.{IsDraft, entries_of};
+ghost use Rattle.spec_files.specs.Drafts.{AreDrafts, HasRoomFor, IsDraft, entries_of};
 ghost use Rattle.spec_files.specs.Runners.{RunsEach};
 ghost use Rattle.spec_files.specs.Inner.Drafts.{lists_of, to_come};
 
@@ -21,18 +20,18 @@ use std::collections::VecDeque;
 use std::sync::Wait;
 use std::thread::Threads;
 
-/// How many permutations run at a time, at most, and how many threads they have together, where it is more than one: so
-/// many stacks of ended threads stay with the process.
-const MOST_AT_A_TIME: usize = 8;
+/// How many crews run at a time, at most, and how many threads they have together, where it is more than one: so many stacks
+/// of ended threads stay with the process.
+const MOST_AT_A_TIME: usize = 2;
 
 const MOST_THREADS: usize = 40;
 
-/// How many one thread runs, one after the other, at most: each thread that is started takes time.
-const MOST_IN_TURN: u64 = 4;
+/// How many permutations one crew serves, at most: each thread that is started takes time, and what wakes one serves many.
+const MOST_TOGETHER: usize = 32;
 
-/// How many permutations of so many sessions run at a time; each has a thread for each session, and the one it runs in.
+/// How many crews of so many sessions run at a time; each has a thread for each session, and the one it runs in.
 fn at_a_time(sessions: usize) -> usize
-    ensures few { (0 < result) × (result ≤ 8) }
+    ensures few { (0 < result) × (result ≤ 2) }
     ensures threads { (result ≡ 1) ⊎ (result * (sessions + 1) ≤ 40) }
 {
     let each = sessions.saturating_add(1);
@@ -42,16 +41,18 @@ fn at_a_time(sessions: usize) -> usize
 
 /// How many permutations of so many sessions run ahead of their turn, at most.
 fn most_ahead(sessions: usize) -> u64
-    ensures { (0 < result) × (result ≤ 32) }
+    ensures { (0 < result) × (result ≤ 64) }
 {
-    at_a_time(sessions) as u64 * MOST_IN_TURN
+    at_a_time(sessions) as u64 * MOST_TOGETHER as u64
 }
 
-/// How many of so many permutations one thread runs, one after the other: they are dealt out evenly.
-fn in_turn(permutations: usize, sessions: usize) -> usize
-    ensures { 0 < result }
+/// How many of so many permutations one crew serves: they are dealt out evenly.
+fn together(permutations: usize, sessions: usize) -> usize
+    ensures { (0 < result) × (result ≤ 32) }
 {
-    permutations.div_ceil(at_a_time(sessions)).max(1)
+    permutations
+        .div_ceil(at_a_time(sessions))
+        .clamp(1, MOST_TOGETHER)
 }
 
 /// The drafts of the permutations whose turn comes next, the permutations behind them, and how many of all these may run.
@@ -110,25 +111,29 @@ impl<'r, 't> Lent for FileLent<'r, 't> {
     ghost gives = { λ lent draft. IsDraft (spec_view lent.file.now.spec) (blocks_of lent.file.now.blocks.items) draft };
 }
 
-/// The drafts of these permutations, which run side by side, so many in turn in each thread.
-fn drafts_of<F: Fn(&SpecFile<'_>, Vec<Entry>) -> Draft + Sync, R: Threads + Wait>(
+/// The drafts of these permutations, which run side by side, so many together.
+fn drafts_of<
+    F: Fn(&SpecFile<'_>, Vec<Vec<Entry>>, Vec<Draft>) -> Vec<Draft> + Sync,
+    R: Threads + Wait,
+>(
     rt: &R,
     alloc: Global,
     file: &SpecFile<'_>,
     run: &F,
     taken: Vec<Vec<Entry>>,
-    in_turn: usize,
+    together: usize,
 ) -> Result<Vec<Draft>, AllocError>
     requires runs { RunsEach (F.pre run.now) (F.post run.now) }
     requires stands { Stands (spec_view file.now.spec) }
-    requires some { 0 < in_turn }
+    requires some { 0 < together }
     ensures { IfOk result (AreDrafts (IsDraft (spec_view file.now.spec) (blocks_of file.now.blocks.items)) taken.items) }
 {
-    let run_one = |entries: Vec<Entry>| -> Draft
-        requires { RunsEach (F.pre run.now) (F.post run.now) × Stands (spec_view file.now.spec) }
-        ensures { IsDraft (spec_view file.entry.now.spec) (blocks_of file.entry.now.blocks.items) result × (result.entries ≡ entries) }
-    { run(file, entries) };
-    side_by_side(rt, alloc, &FileLent { file }, &run_one, taken, in_turn)
+    let run_some = |taken: Vec<Vec<Entry>>, room: Vec<Draft>| -> Vec<Draft>
+        requires runs { RunsEach (F.pre run.now) (F.post run.now) × Stands (spec_view file.now.spec) }
+        requires room { HasRoomFor room taken.items }
+        ensures { AreDrafts (IsDraft (spec_view file.entry.now.spec) (blocks_of file.entry.now.blocks.items)) taken.items result }
+    { run(file, taken, room) };
+    side_by_side(rt, alloc, &FileLent { file }, &run_some, taken, together)
 }
 
 impl<'s> Ahead<'s> {
@@ -147,13 +152,10 @@ impl<'s> Ahead<'s> {
     }
 
     /// Runs the next permutations, no more than may run, where no draft is left.
-    fn fill<F: Fn(&SpecFile<'_>, Vec<Entry>) -> Draft + Sync, R: Threads + Wait>(
-        &mut self,
-        rt: &R,
-        alloc: Global,
-        file: &SpecFile<'_>,
-        run: &F,
-    ) -> Result<(), AllocError>
+    fn fill<
+        F: Fn(&SpecFile<'_>, Vec<Vec<Entry>>, Vec<Draft>) -> Vec<Draft> + Sync,
+        R: Threads + Wait,
+    >(&mut self, rt: &R, alloc: Global, file: &SpecFile<'_>, run: &F) -> Result<(), AllocError>
         requires runs { RunsEach (F.pre run.now) (F.post run.now) }
         requires stands { Stands (spec_view file.now.spec) }
         requires some { 0 < self.old.left }
@@ -171,14 +173,17 @@ impl<'s> Ahead<'s> {
         let sessions = file.spec.sessions.len();
         let most = self.left.min(most_ahead(sessions));
         let taken = take_next(alloc, &mut self.behind, most)?;
-        let in_turn = in_turn(taken.len(), sessions);
-        self.drafts = drafts_of(rt, alloc, file, run, taken, in_turn)?.into();
+        let together = together(taken.len(), sessions);
+        self.drafts = drafts_of(rt, alloc, file, run, taken, together)?.into();
         Ok(())
     }
 
     /// Takes the draft of the permutation whose turn it is, where one is left and may run. Where none was run ahead, the next
     /// ones run: there are never more drafts than permutations that may still run.
-    pub fn next<F: Fn(&SpecFile<'_>, Vec<Entry>) -> Draft + Sync, R: Threads + Wait>(
+    pub fn next<
+        F: Fn(&SpecFile<'_>, Vec<Vec<Entry>>, Vec<Draft>) -> Vec<Draft> + Sync,
+        R: Threads + Wait,
+    >(
         &mut self,
         rt: &R,
         alloc: Global,

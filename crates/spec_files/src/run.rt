@@ -29,7 +29,7 @@ use std::thread::Threads;
 fn run_permutations<
     W: Sink,
     N: Sink,
-    F: Fn(&SpecFile<'_>, Vec<Entry>) -> Draft + Sync,
+    F: Fn(&SpecFile<'_>, Vec<Vec<Entry>>, Vec<Draft>) -> Vec<Draft> + Sync,
     R: Threads + Wait,
 >(
     rt: &R,
@@ -68,7 +68,12 @@ fn run_permutations<
 }
 
 /// Runs the permutations of the spec file that these bytes are, up to so many.
-fn run_file<W: Sink, N: Sink, F: Fn(&SpecFile<'_>, Vec<Entry>) -> Draft + Sync, R: Threads + Wait>(
+fn run_file<
+    W: Sink,
+    N: Sink,
+    F: Fn(&SpecFile<'_>, Vec<Vec<Entry>>, Vec<Draft>) -> Vec<Draft> + Sync,
+    R: Threads + Wait,
+>(
     rt: &R,
     alloc: Global,
     bytes: &[u8],
@@ -109,7 +114,7 @@ pub fn run_spec_by<
     S: Source,
     W: Sink,
     N: Sink,
-    F: Fn(&SpecFile<'_>, Vec<Entry>) -> Draft + Sync,
+    F: Fn(&SpecFile<'_>, Vec<Vec<Entry>>, Vec<Draft>) -> Vec<Draft> + Sync,
     R: Threads + Wait,
 >(
     rt: &R,

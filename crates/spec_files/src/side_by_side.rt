@@ -1,9 +1,8 @@
-//! Permutations that run side by side, in threads that run some of them one after the other.
+//! Permutations that run side by side, so many together in each of several threads.
 
 ghost use Rattle.std.specs.Prelude.{◌≡◌, ◌<◌, All, IfOk};
-ghost use Rattle.std.specs.Global.{Vec as VecFacts};
-ghost use Rattle.spec_parser.specs.declared.tree.Entry.{Entry as EntryFacts};
-ghost use Rattle.spec_files.specs.Inner.Coming.{all_entries, coming_entries, AreDrafts, HasRoomFor, IsComing, RanEach, RunsAny};
+ghost use Rattle.spec_files.specs.Drafts.{AreDrafts, HasRoomFor};
+ghost use Rattle.spec_files.specs.Inner.Coming.{all_entries, coming_entries, IsComing, RunsAny};
 
 use crate::draft::Draft;
 use core::thread::Stack;
@@ -31,7 +30,7 @@ pub struct DraftsOf<L> {
 }
 
 impl<L: Lent> Promise<Vec<Draft>> for DraftsOf<L> {
-    ghost use Rattle.spec_files.specs.Inner.Coming.{AreDrafts};
+    ghost use Rattle.spec_files.specs.Drafts.{AreDrafts};
 
     ghost kept_by = { λ promise drafts. AreDrafts (L.gives promise.lent.value) promise.taken.value.items drafts };
 }
@@ -55,33 +54,16 @@ impl<L: Lent> Coming<L> {
     }
 }
 
-/// Runs these permutations, one after the other, where there is room for their drafts: that no memory is refused.
-fn run_in_turn<F: Fn(Vec<Entry>) -> Draft>(
-    run: &F,
-    taken: Vec<Vec<Entry>>,
-    mut drafts: Vec<Draft>,
-) -> Vec<Draft>
-    requires runs { (entries : VecFacts EntryFacts) → F.pre run.now entries }
-    requires room { HasRoomFor drafts taken.items }
-    ensures { RanEach (F.post run.now) taken.items result.items }
-{
-    for entries in taken {
-        drafts.push(run(entries)).unwrap();
-    }
-    drafts
-}
-
-/// Runs permutations in a thread, one after the other; where none can be started, in the calling one, so that no refused
-/// thread ends a run. It does what is the control session's, so its stack is as a session's thread has it.
-fn begin<'s, 'e: 's, L: Lent + 's, F: Fn(Vec<Entry>) -> Draft + Sync + 's>(
+/// Has permutations run in a thread; where none can be started, in the calling one, so that no refused thread ends a run. It does what is the control session's, so its stack is as a session's thread has it.
+fn begin<'s, 'e: 's, L: Lent + 's, F: Fn(Vec<Vec<Entry>>, Vec<Draft>) -> Vec<Draft> + Sync + 's>(
     scope: &Scope<'s, &'e ()>,
     lent: &'s L,
     run: &'s F,
     taken: Vec<Vec<Entry>>,
-    drafts: Vec<Draft>,
+    room: Vec<Draft>,
 ) -> Coming<L>
     requires runs { RunsAny (F.pre run.now) (F.post run.now) (L.gives lent.now) }
-    requires room { HasRoomFor drafts taken.items }
+    requires room { HasRoomFor room taken.items }
     ensures { IsComing L.gives lent.now result × (coming_entries result ≡ taken.items) }
 {
     let promise = DraftsOf {
@@ -89,10 +71,9 @@ fn begin<'s, 'e: 's, L: Lent + 's, F: Fn(Vec<Entry>) -> Draft + Sync + 's>(
         taken: Snapshot::of(&taken),
     };
     let call = move || -> Vec<Draft>
-        requires runs { (entries : VecFacts EntryFacts) → F.pre run.now entries }
-        requires room { HasRoomFor drafts taken.items }
-        ensures { RanEach (F.post run.entry.now) taken.items result.items }
-    { run_in_turn(run, taken, drafts) };
+        requires { F.pre run.now taken room }
+        ensures { F.post run.entry.now taken room result }
+    { run(taken, room) };
     let stack = Stack::new().stack_size(THREAD_STACK);
     match stack.spawn_scoped_with(scope, promise, call) {
         Ok(thread) => Coming::Running(thread),
@@ -100,29 +81,34 @@ fn begin<'s, 'e: 's, L: Lent + 's, F: Fn(Vec<Entry>) -> Draft + Sync + 's>(
     }
 }
 
-/// Runs these permutations, so many in turn in each thread, the last ones in the calling thread.
-fn begin_each<'s, 'e: 's, L: Lent + 's, F: Fn(Vec<Entry>) -> Draft + Sync + 's>(
+/// Has these permutations run, so many together in each thread, the last ones in the calling thread.
+fn begin_each<
+    's,
+    'e: 's,
+    L: Lent + 's,
+    F: Fn(Vec<Vec<Entry>>, Vec<Draft>) -> Vec<Draft> + Sync + 's,
+>(
     scope: &Scope<'s, &'e ()>,
     alloc: Global,
     lent: &'s L,
     run: &'s F,
     mut taken: Vec<Vec<Entry>>,
-    in_turn: usize,
+    together: usize,
 ) -> Result<Vec<Coming<L>>, AllocError>
-    requires some { 0 < in_turn }
+    requires some { 0 < together }
     requires runs { RunsAny (F.pre run.now) (F.post run.now) (L.gives lent.now) }
     ensures drafts { IfOk result (λ coming. All (IsComing L.gives lent.now) coming.items) }
     ensures entries { IfOk result (λ coming. all_entries coming.items ≡ taken.items) }
 {
     let mut coming = Vec::new(alloc);
-    while taken.len() > in_turn {
-        let behind = taken.split_off(in_turn)?;
+    while taken.len() > together {
+        let behind = taken.split_off(together)?;
         let room = Vec::with_capacity(alloc, taken.len())?;
         coming.push(begin(scope, lent, run, taken, room))?;
         taken = behind;
     }
     let room = Vec::with_capacity(alloc, taken.len())?;
-    coming.push(Coming::There(run_in_turn(run, taken, room)))?;
+    coming.push(Coming::There(run(taken, room)))?;
     Ok(coming)
 }
 
@@ -142,16 +128,20 @@ fn drafts_of_each<L: Lent, R: Threads>(
     Ok(drafts)
 }
 
-/// Runs these permutations, so many in turn in each thread, and answers their drafts in the same order.
-pub fn side_by_side<L: Lent, F: Fn(Vec<Entry>) -> Draft + Sync, R: Threads + Wait>(
+/// Has these permutations run, so many together in each thread, and answers their drafts in the same order.
+pub fn side_by_side<
+    L: Lent,
+    F: Fn(Vec<Vec<Entry>>, Vec<Draft>) -> Vec<Draft> + Sync,
+    R: Threads + Wait,
+>(
     rt: &R,
     alloc: Global,
     lent: &L,
     run: &F,
     taken: Vec<Vec<Entry>>,
-    in_turn: usize,
+    together: usize,
 ) -> Result<Vec<Draft>, AllocError>
-    requires some { 0 < in_turn }
+    requires some { 0 < together }
     requires runs { RunsAny (F.pre run.now) (F.post run.now) (L.gives lent.now) }
     ensures drafts { IfOk result (AreDrafts (L.gives lent.now) taken.items) }
 {
@@ -159,10 +149,10 @@ pub fn side_by_side<L: Lent, F: Fn(Vec<Entry>) -> Draft + Sync, R: Threads + Wai
         thread::scope_env(),
         rt,
         move |scope| -> Result<Vec<Draft>, AllocError>
-            requires { (0 < in_turn) × RunsAny (F.pre run.now) (F.post run.now) (L.gives lent.now) }
+            requires { (0 < together) × RunsAny (F.pre run.now) (F.post run.now) (L.gives lent.now) }
             ensures { IfOk result (AreDrafts (L.gives lent.entry.now) taken.items) }
         {
-            let all = begin_each(scope, alloc, lent, run, taken, in_turn)?;
+            let all = begin_each(scope, alloc, lent, run, taken, together)?;
             drafts_of_each(rt, alloc, all)
         },
     )

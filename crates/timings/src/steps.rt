@@ -21,7 +21,8 @@ fn filling(alloc: Global, rows: u32) -> Result<String, AllocError> {
     Ok(text)
 }
 
-fn block_of<'a>(alloc: Global, text: &'a str, role: Role) -> Result<Block<'a>> {
+/// The block that a text is, in which there must be no fault.
+pub fn block_of<'a>(alloc: Global, text: &'a str, role: Role) -> Result<Block<'a>> {
     if text.len() > 1_000_000 {
         bail!("a long text");
     }

@@ -8,3 +8,8 @@ mod Nulls
 mod Keeping
 mod Kept
 mod Quick
+mod Slots
+mod SameCode
+mod Places
+mod Leading
+mod Searched

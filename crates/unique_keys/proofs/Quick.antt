@@ -1,5 +1,5 @@
 -- A search that starts from the writes which have the key finds the same.
-use Rattle.std.proofs.Common.{◌≡◌, refl, sym, ap, Bool, true, false, cond, not, ◌||◌, ◌&&◌, ◌==◌, ℕ, List, [], ◌∷◌, reverse, eqb-true, eq-eqb}
+use Rattle.std.proofs.Common.{◌≡◌, refl, sym, ap, Bool, true, false, cond, ◌||◌, ◌&&◌, ◌==◌, ℕ, List, [], ◌∷◌, reverse, eqb-true, eq-eqb}
 use Rattle.std.specs.Prelude.{Some, find}
 use Rattle.std.specs.List.{list_any}
 use mathlib.Core.List.{reverse_aux}
@@ -12,30 +12,30 @@ use Rattle.row_versions.specs.Members.{same_tx}
 use Rattle.unique_keys.specs.Keys.{has_key}
 use Rattle.unique_keys.specs.Inner.Finding.{last_of, version_has, is_committed_version, committed_has, own_has, is_in_way}
 
-both : (a b : Bool) → (a && b) ≡ true → (a ≡ true) × (b ≡ true)
+pub both : (a b : Bool) → (a && b) ≡ true → (a ≡ true) × (b ≡ true)
 both true b h = (refl, h)
 both false b h = cc
 
-and : (a b : Bool) → a ≡ true → b ≡ true → (a && b) ≡ true
+pub and : (a b : Bool) → a ≡ true → b ≡ true → (a && b) ≡ true
 and true b h k = k
 and false b h k = cc
 
-or_left : (a b : Bool) → a ≡ true → (a || b) ≡ true
+pub or_left : (a b : Bool) → a ≡ true → (a || b) ≡ true
 or_left true b h = refl
 or_left false b h = cc
 
-or_right : (a b : Bool) → b ≡ true → (a || b) ≡ true
+pub or_right : (a b : Bool) → b ≡ true → (a || b) ≡ true
 or_right true b h = refl
 or_right false b h = h
 
 -- two tests that pass alike are the same
-alike : (a b : Bool) → (a ≡ true → b ≡ true) → (b ≡ true → a ≡ true) → a ≡ b
+pub alike : (a b : Bool) → (a ≡ true → b ≡ true) → (b ≡ true → a ≡ true) → a ≡ b
 alike true b there back = sym (there refl)
 alike false true there back = back refl
 alike false false there back = refl
 
 -- what holds by any write that passes the test, and of which one can say that a test which it passes is passed by a write of the list, holds
-by_any : (p : Noted → Bool) (b : Bool) (ws : List Noted) → ((w : Noted) → p w ≡ true → ((r : Noted → Bool) → r w ≡ true → list_any r ws ≡ true) → b ≡ true) → list_any p ws ≡ true → b ≡ true
+pub by_any : (p : Noted → Bool) (b : Bool) (ws : List Noted) → ((w : Noted) → p w ≡ true → ((r : Noted → Bool) → r w ≡ true → list_any r ws ≡ true) → b ≡ true) → list_any p ws ≡ true → b ≡ true
 by_any p b [] f h = cc
 by_any p b (x ∷ xs) f h = step (p x) refl h (λ k. by_any p b xs (λ w m intro. f w m (λ r n. or_right (r x) (list_any r xs) (intro r n))) k) where
   step : (a : Bool) → p x ≡ a → (a || list_any p xs) ≡ true → (list_any p xs ≡ true → b ≡ true) → b ≡ true
@@ -75,7 +75,7 @@ leads_to_way committed active ws table columns asked tx v =
     has_key columns asked v.values && list_any (λ w. (w.row.0 == v.row.0) && is_in_way committed active ws table columns asked tx w) ws
 
 -- where the row's newest committed version, or an own one, has the key, a write of the row has it
-has_of_row : (committed : TxId → Bool) (ws : List Noted) (columns : List ℕ) (asked : List Value) (row : RowId) (u : TxId)
+pub has_of_row : (committed : TxId → Bool) (ws : List Noted) (columns : List ℕ) (asked : List Value) (row : RowId) (u : TxId)
     → (committed_has committed ws columns asked row || own_has ws columns asked row u) ≡ true → list_any (λ v. has_key columns asked v.values && (row.0 == v.row.0)) ws ≡ true
 has_of_row committed ws columns asked row u h = cases (committed_has committed ws columns asked row) refl h where
   here : (v : Noted) (k : Bool) → ((v.row.0 == row.0) && k) ≡ true → has_key columns asked v.values ≡ true → (has_key columns asked v.values && (row.0 == v.row.0)) ≡ true
@@ -90,25 +90,3 @@ has_of_row committed ws columns asked row u h = cases (committed_has committed w
       by_any (λ v. ((v.row.0 == row.0) && same_tx v.tx u) && has_key columns asked v.values) (list_any (λ v. has_key columns asked v.values && (row.0 == v.row.0)) ws) ws
       (λ v m intro. let p = both ((v.row.0 == row.0) && same_tx v.tx u) (has_key columns asked v.values) m in intro (λ x. has_key columns asked x.values && (row.0 == x.row.0)) (here v (same_tx v.tx u) p.0 p.1))
       k
-
--- a write stands in the way where one leads to such
-pub way_from_key : (committed active : TxId → Bool) (ws : List Noted) (table : TableId) (columns : List ℕ) (asked : List Value) (tx : TxId)
-    → list_any (leads_to_way committed active ws table columns asked tx) ws ≡ list_any (is_in_way committed active ws table columns asked tx) ws
-way_from_key committed active ws table columns asked tx = alike _ _ there back where
-  there : list_any (leads_to_way committed active ws table columns asked tx) ws ≡ true → list_any (is_in_way committed active ws table columns asked tx) ws ≡ true
-  there =
-      by_any (leads_to_way committed active ws table columns asked tx) (list_any (is_in_way committed active ws table columns asked tx) ws) ws
-      (λ v h intro. by_any (λ w. (w.row.0 == v.row.0) && is_in_way committed active ws table columns asked tx w) (list_any (is_in_way committed active ws table columns asked tx) ws) ws
-      (λ w k more. more (is_in_way committed active ws table columns asked tx) (both (w.row.0 == v.row.0) (is_in_way committed active ws table columns asked tx w) k).1)
-      (both (has_key columns asked v.values) (list_any (λ w. (w.row.0 == v.row.0) && is_in_way committed active ws table columns asked tx w) ws) h).1)
-
-  back : list_any (is_in_way committed active ws table columns asked tx) ws ≡ true → list_any (leads_to_way committed active ws table columns asked tx) ws ≡ true
-  back =
-      by_any (is_in_way committed active ws table columns asked tx) (list_any (leads_to_way committed active ws table columns asked tx) ws) ws
-      (λ w h intro. by_any (λ v. has_key columns asked v.values && (w.row.0 == v.row.0)) (list_any (leads_to_way committed active ws table columns asked tx) ws) ws
-      (λ v k more. let p = both (has_key columns asked v.values) (w.row.0 == v.row.0) k in
-      more (leads_to_way committed active ws table columns asked tx)
-      (and (has_key columns asked v.values) (list_any (λ x. (x.row.0 == v.row.0) && is_in_way committed active ws table columns asked tx x) ws) p.0
-      (intro (λ x. (x.row.0 == v.row.0) && is_in_way committed active ws table columns asked tx x) (and (w.row.0 == v.row.0) (is_in_way committed active ws table columns asked tx w) p.1 h))))
-      (has_of_row committed ws columns asked w.row w.tx
-      (both ((w.table.0 == table.0) && (not (same_tx w.tx tx) && active w.tx)) (committed_has committed ws columns asked w.row || own_has ws columns asked w.row w.tx) h).1))

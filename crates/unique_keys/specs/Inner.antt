@@ -1,2 +1,7 @@
 -- Definitions that only the inner functions' clauses and the proofs need: no clause of a public function has them.
 pub mod Finding
+pub mod Codes
+pub mod Slots
+pub mod Listing
+pub mod WellKept
+pub mod Searching

@@ -11,6 +11,7 @@ ghost use Rattle.unique_keys.specs.Checks.{FindsKeys, FreeBefore, KeyIsHeld, Nam
 use crate::blocking::{blockers, is_blocked};
 use crate::keys::{Check, TableKeys};
 use crate::noted::Noted;
+use crate::notes::Notes;
 use crate::taken::taker;
 use row_versions::{RowId, Seen, TableId, TxId, Versions};
 use smallvec::SmallVec;
@@ -18,11 +19,11 @@ use sql_values::{Row, Value};
 use std::alloc::{AllocError, Global};
 use std::marker::Model;
 
-/// What is noted of the writes of all transactions: a list, searched anew at each question.
+/// What is noted of the writes of all transactions. Rows are found by the codes of the keys that the index was told of.
 /// It keeps the allocator that it was made with.
 #[derive(Drop)]
 pub struct KeyIndex {
-    noted: Vec<Noted>,
+    notes: Notes,
 }
 
 impl Model for KeyIndex {
@@ -31,7 +32,12 @@ impl Model for KeyIndex {
 
     ghost Value = { List Noted };
 
-    ghost view = { λ s. s.noted.items };
+    ghost use Rattle.unique_keys.specs.Inner.Slots.{kept};
+    ghost use Rattle.unique_keys.specs.Inner.WellKept.{WellKept};
+
+    ghost view = { λ s. kept s.notes.slots.items };
+
+    ghost invariant = { λ s. WellKept s.notes };
 }
 
 /// What is found of one key.
@@ -59,8 +65,24 @@ impl KeyIndex {
         ensures { result ≡ [] }
     {
         KeyIndex {
-            noted: Vec::new(alloc),
+            notes: Notes::new(alloc),
         }
+    }
+
+    /// From now on rows are found by this key of the table, if no row of the table is noted yet. What is found stays the same.
+    pub fn learn(&mut self, table: TableId, columns: &[u32]) -> Result<(), AllocError>
+        ensures { self.new ≡ self.old }
+    {
+        self.notes.learn(table, columns)
+    }
+
+    fn learn_keys(&mut self, keys: &TableKeys) -> Result<(), AllocError>
+        ensures { self.new ≡ self.old }
+    {
+        for columns in &keys.keys {
+            self.learn(keys.table, columns)?;
+        }
+        Ok(())
     }
 
     /// A write of the transaction enters the index, and the room is made in which it leaves. Without values it deletes the row.
@@ -74,8 +96,10 @@ impl KeyIndex {
         ensures ok { OnOk result (self.new ≡ self.old ++ record { table = keys.now.table; row = row; tx = tx; values = option_copied values.entry } ∷ []) }
         ensures err { OnErr result (self.new ≡ self.old) }
     {
+        self.learn_keys(keys)?;
+        let alloc = self.notes.alloc();
         let values = match values {
-            Some(values) => Some(values.copied(*self.noted.allocator())?),
+            Some(values) => Some(values.copied(alloc)?),
             None => None,
         };
         self.enter(keys.table, row, tx, values)
@@ -92,20 +116,19 @@ impl KeyIndex {
         ensures ok { OnOk result (self.new ≡ self.old ++ record { table = table; row = row; tx = tx; values = values } ∷ []) }
         ensures err { OnErr result (self.new ≡ self.old) }
     {
-        self.noted.push(Noted {
+        self.notes.push(Noted {
             table,
             row,
             tx,
             values,
-        })?;
-        Ok(())
+        })
     }
 
     /// A transaction that was rolled back leaves the index, as if it had never written. It takes no memory.
     pub fn forget(&mut self, tx: TxId)
         ensures { self.new ≡ notes_without tx self.old }
     {
-        self.noted.retain(|note| note.tx.0 != tx.0);
+        self.notes.forget(tx);
     }
 
     /// Whether other open transactions hold a key of these columns. It doesn't say which, and takes no memory.
@@ -119,7 +142,7 @@ impl KeyIndex {
     ) -> bool
         ensures { IsUpToDate self.now (V.content store.now) → result ≡ not (is_none_of (key_blockers (V.content store.now) table tx asked.now columns.now)) }
     {
-        is_blocked(store, self.noted.as_slice(), table, columns, asked, tx)
+        is_blocked(store, &self.notes, table, columns, asked, tx)
     }
 
     /// The transactions that hold a key of these columns, each once.
@@ -133,16 +156,8 @@ impl KeyIndex {
     ) -> Result<SmallVec<TxId, 4>, AllocError>
         ensures { IfOk result (λ by. IsUpToDate self.now (V.content store.now) → EachOnce (key_blockers (V.content store.now) table tx asked.now columns.now) by.items) }
     {
-        let alloc = *self.noted.allocator();
-        blockers(
-            alloc,
-            store,
-            self.noted.as_slice(),
-            table,
-            columns,
-            asked,
-            tx,
-        )
+        let alloc = self.notes.alloc();
+        blockers(alloc, store, &self.notes, table, columns, asked, tx)
     }
 
     /// What is found of one key, where the transaction is about to write these values in place of that row, or as a new one.
@@ -165,8 +180,7 @@ impl KeyIndex {
             let by = self.blockers(store, table, columns, asked, tx)?;
             return Ok(Found::Held(by));
         }
-        let notes = self.noted.as_slice();
-        match taker(store, notes, table, columns, asked, tx, except) {
+        match taker(store, &self.notes, table, columns, asked, tx, except) {
             Some(row) => Ok(found_in(store.newest(row, tx))),
             None => Ok(Found::Free),
         }

@@ -2,10 +2,15 @@
 #![tactic(auto)]
 
 mod blocking;
+mod codes;
 mod key_index;
 mod keys;
+mod known;
 pub mod laws;
+mod listing;
+mod newest;
 mod noted;
+mod notes;
 mod taken;
 
 pub use key_index::{Found, KeyIndex};

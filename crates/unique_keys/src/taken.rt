@@ -1,9 +1,13 @@
 //! Which row has a key.
 ghost use Rattle.std.specs.Prelude.{◌≡◌};
 ghost use Rattle.row_versions.specs.Log.{has_committed};
-ghost use Rattle.unique_keys.specs.Inner.Finding.{counts_for, is_another, newest_has, taker_among, takes};
+ghost use Rattle.unique_keys.specs.Inner.Finding.{counts_for, is_another, row_noted, taker_among, takes};
+ghost use Rattle.unique_keys.specs.Inner.Slots.{at, kept, passes};
+ghost use Rattle.unique_keys.specs.Inner.WellKept.{WellKept};
 
-use crate::noted::{Noted, has_key, version_has};
+use crate::newest::newest_has;
+use crate::noted::{Noted, has_key};
+use crate::notes::Notes;
 use row_versions::{RowId, TableId, TxId, Versions};
 use sql_values::Value;
 
@@ -12,24 +16,6 @@ fn counts_for<V: Versions>(store: &V, tx: TxId, note: &Noted) -> bool
     ensures { result ≡ counts_for (has_committed (V.content store.now)) tx note.now }
 {
     store.has_committed(note.tx) || note.tx.0 == tx.0
-}
-
-/// Whether the row's newest version for the transaction has the key.
-fn newest_has<V: Versions>(
-    store: &V,
-    notes: &[Noted],
-    columns: &[u32],
-    asked: &[Value],
-    row: RowId,
-    tx: TxId,
-) -> bool
-    ensures { result ≡ newest_has (has_committed (V.content store.now)) notes.now columns.now asked.now row tx }
-{
-    let newest = notes
-        .iter()
-        .rev()
-        .find(|note| note.row.0 == row.0 && counts_for(store, tx, note));
-    version_has(columns, asked, newest)
 }
 
 fn is_another(except: Option<RowId>, row: RowId) -> bool
@@ -44,7 +30,7 @@ fn is_another(except: Option<RowId>, row: RowId) -> bool
 /// Whether the write gave the key to another row of the table, which has it still.
 fn takes<V: Versions>(
     store: &V,
-    notes: &[Noted],
+    notes: &Notes,
     table: TableId,
     columns: &[u32],
     asked: &[Value],
@@ -52,7 +38,8 @@ fn takes<V: Versions>(
     except: Option<RowId>,
     note: &Noted,
 ) -> bool
-    ensures { result ≡ takes (has_committed (V.content store.now)) notes.now table tx except asked.now columns.now note.now }
+    requires { WellKept notes.now }
+    ensures { result ≡ takes (has_committed (V.content store.now)) (kept notes.now.slots.items) table tx except asked.now columns.now note.now }
 {
     note.table.0 == table.0
         && is_another(except, note.row)
@@ -61,20 +48,54 @@ fn takes<V: Versions>(
         && newest_has(store, notes, columns, asked, note.row, tx)
 }
 
+/// Whether the write at the place, if there is one, did so.
+fn takes_at<V: Versions>(
+    store: &V,
+    notes: &Notes,
+    table: TableId,
+    columns: &[u32],
+    asked: &[Value],
+    tx: TxId,
+    except: Option<RowId>,
+    place: usize,
+) -> bool
+    requires { WellKept notes.now }
+    ensures { result ≡ passes (takes (has_committed (V.content store.now)) (kept notes.now.slots.items) table tx except asked.now columns.now) (at notes.now.slots.items place) }
+{
+    match notes.at(place) {
+        Some(note) => takes(store, notes, table, columns, asked, tx, except, note),
+        None => false,
+    }
+}
+
+/// The row of the note at the place.
+fn row_at(notes: &Notes, place: usize) -> Option<RowId>
+    ensures { result ≡ row_noted (at notes.now.slots.items place) }
+{
+    match notes.at(place) {
+        Some(note) => Some(note.row),
+        None => None,
+    }
+}
+
 /// The row of the table that has the key, the one that was first given it.
 pub fn taker<V: Versions>(
     store: &V,
-    notes: &[Noted],
+    notes: &Notes,
     table: TableId,
     columns: &[u32],
     asked: &[Value],
     tx: TxId,
     except: Option<RowId>,
 ) -> Option<RowId>
-    ensures { result ≡ taker_among (has_committed (V.content store.now)) notes.now table tx except asked.now columns.now }
+    requires { WellKept notes.now }
+    ensures { result ≡ taker_among (has_committed (V.content store.now)) (kept notes.now.slots.items) table tx except asked.now columns.now }
 {
-    notes
-        .iter()
-        .find(|note| takes(store, notes, table, columns, asked, tx, except, note))
-        .map(|note| note.row)
+    let candidates = notes.candidates(table, columns, asked);
+    for place in candidates {
+        if takes_at(store, notes, table, columns, asked, tx, except, *place) {
+            return row_at(notes, *place);
+        }
+    }
+    None
 }

@@ -9,7 +9,7 @@ use Rattle.row_locks.specs.declared.held.Held.{Held}
 use Rattle.row_locks.specs.Waiting.{Waiting}
 use Rattle.row_locks.specs.Cycles.{closes}
 use Rattle.row_locks.specs.Laws.{SameLocks, SamePairs}
-use Rattle.row_locks.proofs.Reaching.{or_left, is_same}
+use Rattle.row_locks.proofs.Cases.{or_left, is_same}
 use Rattle.row_locks.proofs.Holding.{by_what_is_held}
 use Rattle.row_locks.proofs.Pairs.{by_who_blocks}
 use Rattle.update_recheck.specs.Asked.{Asked}

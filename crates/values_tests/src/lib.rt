@@ -11,9 +11,13 @@ mod keys;
 #[cfg(test)]
 mod leaving;
 #[cfg(test)]
+mod random_notes;
+#[cfg(test)]
 mod sizes;
 #[cfg(test)]
 mod sorting;
+#[cfg(test)]
+mod stores;
 #[cfg(test)]
 mod summing;
 #[cfg(test)]

@@ -3,6 +3,7 @@ ghost use Rattle.std.specs.Prelude.{◌≡◌};
 ghost use Rattle.row_versions.specs.Log.{empty_content};
 
 use crate::told::{at_last, holds};
+use chain_store::ChainStore;
 use row_versions::{ListStore, RowId, Seen, TableId, TxId, Versions, View};
 use sql_values::{Row, Value};
 use std::alloc::{AllocError, Global};
@@ -201,12 +202,22 @@ fn changes_alone(alloc: Global) -> Result<bool, AllocError> {
     changes(alloc, &mut ListStore::new(alloc))
 }
 
+fn inserts_linked(alloc: Global) -> Result<bool, AllocError> {
+    inserts(alloc, &mut ChainStore::new(alloc))
+}
+
+fn changes_linked(alloc: Global) -> Result<bool, AllocError> {
+    changes(alloc, &mut ChainStore::new(alloc))
+}
+
 #[test]
 fn inserted_rows_are_seen_once_committed(rt: HostRuntime) {
     holds(&rt, at_last!(inserts_alone(rt.alloc())), "inserts");
+    holds(&rt, at_last!(inserts_linked(rt.alloc())), "linked");
 }
 
 #[test]
 fn open_and_rolled_back_writes_of_others_are_not_seen(rt: HostRuntime) {
     holds(&rt, at_last!(changes_alone(rt.alloc())), "changes");
+    holds(&rt, at_last!(changes_linked(rt.alloc())), "linked");
 }

@@ -18,8 +18,8 @@ use Rattle.row_locks.specs.Held.{holders_against, released, with_lock}
 use Rattle.row_locks.specs.Inner.Searching.{is_against}
 use Rattle.row_locks.specs.Cycles.{blocks, NoCycle, closes}
 use Rattle.row_locks.proofs.Paths.{run_kept, wait_kept, no_cycle_less}
-use Rattle.row_locks.proofs.Reaching.{or_cases, or_left, or_right, is_same, same_is}
-use Rattle.row_locks.proofs.Waiting.{bool_is, closes_says, walk_ends}
+use Rattle.row_locks.proofs.Cases.{bool_is, or_cases, or_left, or_right, is_same, same_is}
+use Rattle.row_locks.proofs.Waiting.{closes_says, walk_ends}
 use Rattle.session_machine.specs.declared.session.OpenTransaction.{OpenTransaction}
 use Rattle.session_machine.specs.declared.session.Request.{Request}
 use Rattle.session_machine.specs.declared.session.Request.TheVariants.{Row, Key}

@@ -30,7 +30,7 @@ use Rattle.row_locks.specs.declared.held.Held.{Held}
 use Rattle.row_locks.specs.Held.{holders_against, holds, with_lock}
 use Rattle.row_versions.specs.Members.{is_none_of}
 use Rattle.row_locks.specs.Cycles.{closes}
-use Rattle.row_locks.proofs.Reaching.{and_both}
+use Rattle.row_locks.proofs.Cases.{and_both}
 use Rattle.unique_keys.specs.Checks.{KeyFound, KeyIsFree, KeyIsTaken, KeyIsHeld, found_by, key_found}
 use Rattle.update_recheck.specs.Asked.{Asked}
 use Rattle.update_recheck.specs.Outcome.{Version, Same, Gone, Newer, newest_version, version_at}

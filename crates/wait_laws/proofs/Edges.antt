@@ -4,7 +4,7 @@ use Rattle.std.specs.Prelude.{Option, Some, None, slice_get}
 use Rattle.row_versions.specs.declared.names.TxId.{TxId}
 use Rattle.row_versions.specs.Members.{has, same_tx}
 use Rattle.row_locks.specs.Cycles.{blocks}
-use Rattle.row_locks.proofs.Reaching.{or_cases, or_left, or_right, and_both, both_and, same_is, is_same}
+use Rattle.row_locks.proofs.Cases.{or_cases, or_left, or_right, and_both, both_and, same_is, is_same}
 use Rattle.session_machine.specs.declared.session.OpenTransaction.{OpenTransaction}
 use Rattle.session_machine.specs.declared.session.Place.{Place}
 use Rattle.session_machine.specs.declared.session.Transaction.{Transaction}

@@ -17,8 +17,7 @@ use Rattle.row_locks.specs.declared.held.Held.{Held}
 use Rattle.row_versions.specs.Members.{has, same_tx, is_none_of}
 use Rattle.row_locks.specs.Held.{conflicts, holders_against, holds, released, same_lock, same_strength, with_lock}
 use Rattle.row_locks.proofs.Holding.{blockers_hold, conflicts_both_ways}
-use Rattle.row_locks.proofs.Reaching.{or_cases, or_left, or_right, and_both, same_is}
-use Rattle.row_locks.proofs.Waiting.{bool_is}
+use Rattle.row_locks.proofs.Cases.{bool_is, or_cases, or_left, or_right, and_both, same_is}
 use Rattle.session_machine.specs.declared.session.Transaction.{Transaction}
 use Rattle.session_machine.specs.declared.session.Transaction.TheVariants.{Closed, Open, Aborted}
 use Rattle.session_machine.specs.Tables.{Database}

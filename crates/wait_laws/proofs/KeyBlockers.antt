@@ -15,7 +15,7 @@ use Rattle.row_versions.specs.Log.{Content, IsOpen, commit_count, fate_of, has_c
 use Rattle.row_versions.specs.Inner.Searching.{is_committed}
 use Rattle.row_versions.proofs.Gets.{get-append_left}
 use Rattle.row_versions.specs.Members.{has, same_tx, is_none_of}
-use Rattle.row_locks.proofs.Reaching.{or_cases, or_left, or_right, and_both, both_and, is_same, same_is}
+use Rattle.row_locks.proofs.Cases.{or_cases, or_left, or_right, and_both, both_and, is_same, same_is}
 use Rattle.unique_keys.specs.declared.noted.Noted.{Noted}
 use Rattle.unique_keys.specs.Keys.{has_key}
 use Rattle.unique_keys.specs.Writes.{noted_of, writes}

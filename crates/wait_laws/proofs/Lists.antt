@@ -8,7 +8,7 @@ use Rattle.row_versions.specs.declared.names.TxId.{TxId}
 use Rattle.row_versions.specs.declared.write.Write.{Write}
 use Rattle.row_locks.specs.Held.{same_lock, holds, released, with_lock}
 use Rattle.row_locks.proofs.Holding.{is_lock, lock_is}
-use Rattle.row_locks.proofs.Reaching.{or_cases, or_left, or_right}
+use Rattle.row_locks.proofs.Cases.{or_cases, or_left, or_right}
 
 -- the lock that was taken last is held
 pub holds_last : (held : List Held) (h : Held) → holds (with_lock held h) h ≡ true

@@ -16,7 +16,7 @@ use Rattle.row_versions.specs.Members.{has, is_none_of}
 use Rattle.row_locks.specs.Held.{with_lock}
 use Rattle.row_locks.specs.Inner.Searching.{is_against}
 use Rattle.row_locks.proofs.Against.{some_are_against}
-use Rattle.row_locks.proofs.Reaching.{or_left, and_both, both_and}
+use Rattle.row_locks.proofs.Cases.{or_left, and_both, both_and}
 use Rattle.std.specs.List.{list_any}
 use Rattle.std.proofs.lemmas.List.Folds.{list_any-append}
 use Rattle.session_machine.specs.declared.session.OpenTransaction.{OpenTransaction}

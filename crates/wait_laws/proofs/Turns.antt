@@ -5,7 +5,7 @@ use Rattle.std.specs.List.{list_all, position_from}
 use Rattle.std.specs.Option.{option_map_or, option_or}
 use Rattle.std.proofs.lemmas.Bool.{cases_eq, eq-eqb, ltb-true}
 use Rattle.std.proofs.lemmas.Option.{slice_get_within}
-use Rattle.row_locks.proofs.Reaching.{and_both}
+use Rattle.row_locks.proofs.Cases.{and_both}
 use Rattle.sql_trees.specs.Statements.{StmtTree}
 use Rattle.session_machine.specs.declared.session.Place.{Place}
 use Rattle.session_machine.specs.declared.session.Progress.{Progress}

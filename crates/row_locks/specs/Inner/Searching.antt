@@ -1,9 +1,11 @@
 -- Words of the search for blockers and for a cycle.
-use Rattle.std.specs.Prelude.{ℕ, ◌==◌, Bool, false, not, ◌&&◌, List, [], Option, Some, None, slice_get}
+use Rattle.std.specs.Prelude.{ℕ, ◌==◌, Bool, if◌then◌else◌, not, ◌&&◌, List, [], ◌∷◌, ◌++◌, Option, Some, None}
+use Rattle.std.specs.List.{fold}
 use Rattle.row_versions.specs.declared.names.TxId.{TxId}
 use Rattle.row_versions.specs.declared.names.RowId.{RowId}
 use Rattle.row_versions.specs.Members.{same_tx, has}
 use Rattle.sql_trees.specs.declared.stmt.Strength.{Strength}
+use Rattle.ordered_slots.specs.Kept.{value_in}
 use Rattle.row_locks.specs.declared.held.Held.{Held}
 use Rattle.row_locks.specs.Held.{conflicts}
 use Rattle.row_locks.specs.Waiting.{Waiting}
@@ -16,14 +18,18 @@ abbrev pub blockers_in : Option Waiting → List TxId
 blockers_in None = []
 blockers_in (Some w) = w.blockers
 
--- whom the one at this place waits for
-abbrev pub blockers_at : List Waiting → ℕ → List TxId
-blockers_at waits place = blockers_in (slice_get waits place)
+-- whom the one in this slot waits for
+abbrev pub blockers_at : List (ℕ × Waiting) → ℕ → List TxId
+blockers_at waits slot = blockers_in (value_in waits slot)
 
-abbrev pub is_reached_in : List TxId → Option Waiting → Bool
-is_reached_in reached None = false
-is_reached_in reached (Some w) = has reached w.tx
+-- the transaction is reached too
+abbrev pub reach_one : List TxId → TxId → List TxId
+reach_one reached tx = if has reached tx then reached else reached ++ tx ∷ []
 
--- the one that waits at this place is reached
-abbrev pub is_reached : List Waiting → List TxId → ℕ → Bool
-is_reached waits reached place = is_reached_in reached (slice_get waits place)
+-- these are reached too
+abbrev pub reach : List TxId → List TxId → List TxId
+reach txs reached = fold reach_one reached txs
+
+-- those are reached too that the ones in these slots wait for
+abbrev pub spread : List (ℕ × Waiting) → List ℕ → List TxId → List TxId
+spread waits slots reached = fold (λ before slot. reach (blockers_at waits slot) before) reached slots

@@ -1,5 +1,5 @@
 -- What stands behind the lock of a run.
-use Rattle.std.specs.Prelude.{◌≡◌, List, [], Option, Some, None, Bool, true}
+use Rattle.std.specs.Prelude.{◌≡◌, ℕ, List, [], Option, Some, None, Bool, true}
 use Rattle.session_machine.specs.declared.event.Event.{Event}
 use Rattle.session_machine.specs.declared.event.Order.{Order}
 use Rattle.session_machine.specs.declared.event.Order.TheVariants.{Stop}
@@ -8,8 +8,9 @@ use Rattle.session_machine.specs.Engine.{Engine}
 use Rattle.session_seats.specs.declared.fault.ThreadFault.{ThreadFault}
 use Rattle.session_seats.specs.Orders.{Orders, IsOrder, OrderedAfter}
 
--- what stands behind the lock of a run: the engine, the order that was given and is not yet done, whether the driver said Stop, and a fault that was met
+-- what stands behind the lock of a run: its place, the engine, the order that was given and is not yet done, whether the driver said Stop, and a fault that was met
 pub record SharedOf : Type 0 where
+  pub place : ℕ
   pub engine : Engine
   pub order : Option Event
   pub stop : Bool

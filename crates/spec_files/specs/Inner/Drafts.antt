@@ -10,10 +10,6 @@ use Rattle.spec_files.specs.Drafts.{entries_of}
 abbrev pub lists_of : List (Vec Entry) → List (List EntryTree)
 lists_of taken = map perm_view taken
 
--- the entries of a draft, as they were read
-abbrev pub listed : Draft → Vec Entry
-listed draft = draft.entries
-
 -- the permutations that are still to be written: those that were drafted, and those behind them
 abbrev pub to_come : List Draft → List (List EntryTree) → List (List EntryTree)
 to_come drafts behind = map entries_of drafts ++ behind

@@ -48,6 +48,10 @@ is_in_way committed active ws table columns asked tx w =
     ((w.table.0 == table.0) && (not (same_tx w.tx tx) && active w.tx))
     && (committed_has committed ws columns asked w.row || own_has ws columns asked w.row w.tx)
 
+-- it is of the row, and stands in the way
+abbrev pub is_in_row : (TxId → Bool) → (TxId → Bool) → List Noted → TableId → List ℕ → List Value → TxId → RowId → Noted → Bool
+is_in_row committed active ws table columns asked tx row w = (w.row.0 == row.0) && is_in_way committed active ws table columns asked tx w
+
 -- those transactions
 abbrev pub blockers_among : (TxId → Bool) → (TxId → Bool) → List Noted → TableId → TxId → List Value → List ℕ → List TxId
 blockers_among committed active ws table tx asked columns = map (λ w. w.tx) (filter (is_in_way committed active ws table columns asked tx) ws)
@@ -63,6 +67,14 @@ is_version_for committed row tx w = (w.row.0 == row.0) && counts_for committed t
 -- the row's newest version for the transaction has the key
 abbrev pub newest_has : (TxId → Bool) → List Noted → List ℕ → List Value → RowId → TxId → Bool
 newest_has committed ws columns asked row tx = version_has columns asked (last_of (is_version_for committed row tx) ws)
+
+-- the write counts: it is committed, or that transaction's own
+abbrev pub counts_by : (TxId → Bool) → Option TxId → Noted → Bool
+counts_by committed own w = committed w.tx || option_map_or (λ tx. same_tx w.tx tx) own false
+
+-- it is a version of the row that counts
+abbrev pub is_version_by : (TxId → Bool) → Option TxId → RowId → Noted → Bool
+is_version_by committed own row w = (w.row.0 == row.0) && counts_by committed own w
 
 -- the row isn't the one that is left aside
 abbrev pub is_another : Option RowId → RowId → Bool

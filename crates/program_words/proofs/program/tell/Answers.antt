@@ -1,6 +1,4 @@
-use Rattle.std.proofs.Common.{refl, subst}
-use Rattle.std.specs.Io.KnownBytes.{Appends}
-use Rattle.iso_lexer.specs.Devices.{PutsFront}
+use Rattle.std.proofs.Common.{refl}
 use Rattle.iso_lexer.proofs.Writing.{appends_more, front_of_piece}
 use Rattle.spec_files.specs.FaultText.{fault_line}
 use Rattle.program_words.specs.Terminal.{quote_of}
@@ -15,11 +13,11 @@ returns-in_err-put_fault-clause-front g c =
 pub returns-clause-bytes : goal.returns-clause-bytes
 returns-clause-bytes g c =
     let put = g.N.Sink.put_so_far in
-    ok_with c.put_quote.result (λ more. appends_more (put c.args.err.now) (put c.put_fault.new.err) (put c.put_quote.new.err) (fault_line c.args.fault.now) (quote_of c.args.there c.args.file.now c.args.fault.now) c.in_ok-put_fault.ensures.bytes
-    (subst (Appends (put c.put_fault.new.err) (put c.put_quote.new.err)) (c.place_there.ensures c.args.file.now) more)) c.put_quote.ensures.bytes
+    ok_with c.put_there.result (λ more. appends_more (put c.args.err.now) (put c.put_fault.new.err) (put c.put_there.new.err) (fault_line c.args.fault.now) (quote_of c.args.there c.args.file.now c.args.fault.now) c.in_ok-put_fault.ensures.bytes
+    more) c.put_there.ensures.bytes
 
 pub returns-clause-front : goal.returns-clause-front
 returns-clause-front g c =
     let put = g.N.Sink.put_so_far in
-    front_behind (put c.args.err.now) (put c.put_fault.new.err) (put c.put_quote.new.err) (fault_line c.args.fault.now) (quote_of c.args.there c.args.file.now c.args.fault.now) c.in_ok-put_fault.ensures.bytes
-    (subst (PutsFront (put c.put_fault.new.err) (put c.put_quote.new.err)) (c.place_there.ensures c.args.file.now) c.put_quote.ensures.front)
+    front_behind (put c.args.err.now) (put c.put_fault.new.err) (put c.put_there.new.err) (fault_line c.args.fault.now) (quote_of c.args.there c.args.file.now c.args.fault.now) c.in_ok-put_fault.ensures.bytes
+    c.put_there.ensures.front

@@ -1,9 +1,10 @@
 use denote.Param.Send.{sendable}
 use Rattle.std.proofs.sync.Mutex.TheSendSync.{the_sync as mutex_sync}
 use Rattle.session_crews.proofs.Sending.{shared_send}
-use Rattle.session_seats.proofs.post.Post.TheSendSync.{the_send as post_send}
+use Rattle.session_seats.proofs.board.Board.TheSendSync.{the_sync as board_sync}
+use Rattle.session_crews.proofs.crew.Desk.TheSendSync.{the_send as desk_send}
 use Rattle.session_crews.proofs.directed.start.Goals as goal
 
 -- what a thread is lent may cross to it
 pub start_thread-requires-send-F : goal.start_thread-requires-send-F
-start_thread-requires-send-F g c κs within = search (sendable, mutex_sync, post_send, shared_send) depth 60 fits 10000
+start_thread-requires-send-F g c κs within = search (sendable, mutex_sync, board_sync, desk_send, shared_send) depth 60 fits 10000

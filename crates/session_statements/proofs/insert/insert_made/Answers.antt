@@ -23,4 +23,4 @@ returns-clause-made g c =
     let after = inserted db w c.args.values in
     let due = shows w (putting_of c.args.put.now).returning after c.args.values in
     c.in_ok-met.ensures due ∙ ap (λ (o : Option Meets). unless_met db due (option_map meets_of o)) c.in_default.is
-    ∙ c.in_ok-answer.ensures after refl ∙ ap (λ (d : Database). visit_of d c.in_ok-answer.answer) (sym c.in_ok-add_row.ensures)
+    ∙ c.in_ok-answer.ensures.shown after refl ∙ ap (λ (d : Database). visit_of d c.in_ok-answer.answer) (sym c.in_ok-add_row.ensures)

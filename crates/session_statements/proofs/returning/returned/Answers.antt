@@ -5,8 +5,8 @@ use Rattle.session_machine.specs.Inner.Statements.{shows}
 use Rattle.session_statements.specs.Inner.Acting.{visit_of}
 use Rattle.session_statements.proofs.returning.returned.Goals as goal
 
-pub returns-in-Some : goal.returns-in-Some
-returns-in-Some g c after same =
+pub returns-in-Some-clause-shown : goal.returns-in-Some-clause-shown
+returns-in-Some-clause-shown g c after same =
     let w = c.args.work.now in
     let items : Some (map item_of c.deref.result.now) ≡ option_map items_of c.args.items.now =
     ap (λ is. Some (map item_of is)) c.deref.ensures.value ∙ ap (option_map items_of) (sym c.in-Some.is) in

@@ -12,5 +12,5 @@ pub returns : goal.returns
 returns g c =
     let w = c.args.work.now in
     let after = written c.args.db.now w c.args.version.now.row None in
-    ap (λ (row : List Value). shows w (delete_of c.args.stmt.now).returning after row) (sym c.row_of.ensures) ∙ c.in_ok-answer.ensures after refl
+    ap (λ (row : List Value). shows w (delete_of c.args.stmt.now).returning after row) (sym c.row_of.ensures) ∙ c.in_ok-answer.ensures.shown after refl
     ∙ ap (λ (d : Database). visit_of d c.in_ok-answer.answer) (sym c.in_ok-write_row.ensures)

@@ -4,7 +4,7 @@ use Rattle.std.proofs.lemmas.Bool.{cases_lt}
 use Rattle.spec_files.proofs.ahead.at_a_time.Goals as goal
 
 -- so many at a time, no more than forty hold of them, where it is more than one
-few_threads : (sessions each fit most : ℕ) → each ≡ min (sessions + 1) (2 ^ 64 - 1) → fit ≡ 40 / each → most ≡ max 1 (min fit 8) → (1 < fit) ⊎ (fit ≤ 1) → (most ≡ 1) ⊎ (most * (sessions + 1) ≤ 40)
+few_threads : (sessions each fit most : ℕ) → each ≡ min (sessions + 1) (2 ^ 64 - 1) → fit ≡ 40 / each → most ≡ max 1 (min fit 2) → (1 < fit) ⊎ (fit ≤ 1) → (most ≡ 1) ⊎ (most * (sessions + 1) ≤ 40)
 few_threads sessions each fit most each_is fit_is most_is (inr one) = inl (omega (arith, most_is, one))
 few_threads sessions each fit most each_is fit_is most_is (inl several) =
     let all : fit * each ≤ 40 = subst (λ (n : ℕ). n * each ≤ 40) (sym fit_is) (div-mul-le_self 40 each) in

@@ -1,11 +1,11 @@
 use Rattle.std.proofs.lemmas.Result.{err_from_is_err_and}
-use Rattle.std.proofs.Common.{◌≡◌, ◌≢◌, ◌∷◌, ◌<◌, ◌≤◌, [], List, length, subst, rules, arith, refl, sym, ap, ◌+◌, ◌-◌}
+use Rattle.std.proofs.Common.{◌≡◌, ◌≢◌, ◌∷◌, ◌<◌, ◌≤◌, [], length, rules, arith, refl, sym, ap, ◌+◌, ◌-◌}
 use Rattle.sql_blocks.specs.Blocks.{blocks_of}
-use Rattle.spec_parser.specs.Trees.{EntryTree, spec_view}
+use Rattle.spec_parser.specs.Trees.{spec_view}
 use Rattle.permutation_lists.specs.Permutations.{permutations_of}
 use Rattle.spec_files.specs.Drafts.{IsDraft, entries_of}
 use Rattle.spec_files.specs.Inner.Drafts.{to_come}
-use Rattle.spec_files.proofs.Printing.{SoFar, starts, still, goes_on, all_ran, one_too_many, run_stops, breaks}
+use Rattle.spec_files.proofs.Printing.{starts, still, goes_on, all_ran, one_too_many, run_stops, breaks}
 use Rattle.spec_files.proofs.Beginning.{at_sink, whole_begun, next_begun}
 use Rattle.spec_files.proofs.Turns.{draft_told, draft_begun, draft_broken, no_drafts, all_come, first_of, none_left}
 use Rattle.spec_files.proofs.run.run_permutations.Goals as goal

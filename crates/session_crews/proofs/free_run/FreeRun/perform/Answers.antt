@@ -1,4 +1,4 @@
-use Rattle.std.proofs.Common.{rules, subst, sym}
+use Rattle.std.proofs.Common.{subst, sym}
 use Rattle.session_machine.specs.Engine.{Engine}
 use Rattle.session_seats.specs.Acts.{IsRunOf}
 use Rattle.session_crews.proofs.Going.{not_acted_of}

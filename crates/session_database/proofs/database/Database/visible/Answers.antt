@@ -1,6 +1,5 @@
 use Rattle.std.proofs.Common.{◌≡◌, ◌∙◌, ℕ, List, ap, sym}
-use Rattle.std.specs.Prelude.{Some, Result, Ok, Err, option_map}
-use Rattle.std.specs.Result.{OnErr}
+use Rattle.std.specs.Prelude.{Some, option_map}
 use Rattle.sql_trees.specs.Statements.{name_of}
 use Rattle.sql_values.specs.declared.value.Value.{Value}
 use Rattle.session_machine.specs.declared.session.Session.{Session}
@@ -8,6 +7,7 @@ use Rattle.session_machine.specs.Tables.{Database, find_table}
 use Rattle.session_machine.specs.Transactions.{own_of, view_now}
 use Rattle.session_machine.specs.Views.{rows_shown}
 use Rattle.session_machine.specs.Machine.{visible_to}
+use Rattle.session_database.proofs.Erring.{on_any_err}
 use Rattle.session_database.proofs.database.Database.visible.Goals as goal
 
 -- where the name means a table its rows are visible
@@ -15,10 +15,6 @@ shows : (db : Database) (s : Session) (name : List ℕ) (k : ℕ) → find_table
 shows db s name k found =
     let shown = rows_shown db.content (view_now db.content s.transaction s.statement) in
     (shown k, ap (option_map shown) found)
-
-on_any_err : {A E P : Type 0} (r : Result A E) → P → OnErr r P
-on_any_err (Ok a) p = tt
-on_any_err (Err e) p = p
 
 pub returns-in_err-seen-clause-memory : goal.returns-in_err-seen-clause-memory
 returns-in_err-seen-clause-memory g c =

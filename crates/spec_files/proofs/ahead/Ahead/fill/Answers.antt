@@ -1,5 +1,5 @@
 use Rattle.std.proofs.Common.{◌≡◌, ◌≤◌, length, map, arith, rules}
-use Rattle.spec_files.specs.Inner.Drafts.{listed}
+use Rattle.spec_files.specs.Drafts.{listed}
 use Rattle.spec_files.proofs.Drafting.{few_drafts, filled}
 use Rattle.spec_files.proofs.ahead.Ahead.fill.Goals as goal
 

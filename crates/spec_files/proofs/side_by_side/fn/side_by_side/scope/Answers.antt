@@ -2,7 +2,7 @@ use Rattle.std.proofs.Common.{List, subst}
 use Rattle.std.proofs.lemmas.Result.{IfOk-weaker}
 use Rattle.std.specs.Global.{Vec}
 use Rattle.spec_parser.specs.declared.tree.Entry.{Entry}
-use Rattle.spec_files.specs.Inner.Coming.{AreDrafts}
+use Rattle.spec_files.specs.Drafts.{AreDrafts}
 use Rattle.spec_files.proofs.side_by_side.fn.side_by_side.scope.Goals as goal
 
 pub returns : goal.returns

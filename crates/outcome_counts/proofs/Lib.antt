@@ -1,0 +1,3 @@
+pub mod Multisets
+pub mod Pairs
+pub mod Counting

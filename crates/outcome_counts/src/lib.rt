@@ -1,0 +1,14 @@
+//! What came of permutations: the outcome of a history, when two outcomes are one, and how many permutations have which.
+#![tactic(auto)]
+
+mod alike;
+mod answers;
+mod counted;
+pub mod laws;
+mod outcome;
+mod rows;
+
+pub use alike::{same_answers, same_table};
+pub use answers::answers_of;
+pub use counted::{Counted, Group, copied_entries, switches_in};
+pub use outcome::RunOutcome;

@@ -1,0 +1,65 @@
+//! Says what can happen at all: runs the permutations of the spec file that comes on standard input, and prints their outcomes, with
+//! those that no serial order of the transactions has.
+#![tactic(auto)]
+
+mod words;
+
+use iso_lexer::{FromStd, LONGEST_FILE, read_all};
+use outcome_text::{Answer, answer_of};
+use permutations::RunFault;
+use std::process::ExitCode;
+use std::rt::Runtime;
+use std::sync::Wait;
+use std::{env, io};
+use words::{Request, USAGE, request_of};
+
+/// The status where the words of the command line are refused.
+const WORDS_REFUSED: u8 = 2;
+
+/// The status where an outcome is not serial, and that was asked.
+const NOT_SERIAL: u8 = 4;
+
+/// Reads the file, and says what can happen in it.
+fn read_and_answer<R: Runtime + AllocGlobal + Wait>(
+    rt: &R,
+    limit: u64,
+) -> Result<Answer, RunFault> {
+    let alloc = rt.alloc();
+    let mut input = FromStd::new(rt.reader());
+    let bytes = read_all(alloc, &mut input, LONGEST_FILE + 1)?;
+    answer_of(rt, alloc, bytes.as_slice(), limit)
+}
+
+/// Prints what can happen, and gives the exit status.
+fn run<R: Runtime + AllocGlobal + Wait>(rt: &R, request: Request) -> io::Result<u8> {
+    match read_and_answer(rt, request.limit) {
+        Ok(answer) => {
+            let text = answer.text.as_str();
+            print!(rt; "{text}")?;
+            Ok(if request.serial && !answer.serial {
+                NOT_SERIAL
+            } else {
+                0
+            })
+        }
+        Err(fault) => {
+            eprintln!(rt; "outcomes: {fault}")?;
+            Ok(fault.status())
+        }
+    }
+}
+
+fn main(rt: HostRuntime) -> io::Result<ExitCode> {
+    let words: Vec<String> = env::args(&rt)?.collect(rt.alloc())?;
+    match request_of(&words) {
+        Some(request) if request.help => {
+            println!(rt; "{USAGE}")?;
+            Ok(ExitCode::SUCCESS)
+        }
+        Some(request) => Ok(ExitCode::from(run(&rt, request)?)),
+        None => {
+            eprintln!(rt; "{USAGE}")?;
+            Ok(ExitCode::from(WORDS_REFUSED))
+        }
+    }
+}

@@ -1,0 +1,53 @@
+//! The words of the command line.
+
+/// So many permutations run at most, unless the command line says otherwise.
+const DEFAULT_LIMIT: u64 = 1_000_000;
+
+pub const USAGE: &str = "outcomes [--serial] [--limit N] < FILE
+
+Runs the permutations of a spec file, and says what can happen: each outcome with what its steps answered and what the
+tables hold, how many permutations have it, and whether it is that of a serial order of the transactions.
+
+  --serial   end with status 4 where an outcome is that of no serial order
+  --limit N  stop after N permutations, 1000000 if N is not given
+  --help     print this
+
+Exit status:
+  0  all ran
+  1  the file is refused, or its run ends early
+  2  the command line is refused
+  3  memory, a read or a write failed
+  4  with --serial: an outcome is that of no serial order";
+
+/// What the command line asks for.
+#[derive(Clone, Copy)]
+pub struct Request {
+    pub serial: bool,
+    pub help: bool,
+    pub limit: u64,
+}
+
+/// What the words ask for, of which the first is the program's name; none where they are no call.
+pub fn request_of(words: &[String]) -> Option<Request> {
+    let mut request = Request {
+        serial: false,
+        help: false,
+        limit: DEFAULT_LIMIT,
+    };
+    let mut is_limit = false;
+    for word in words.iter().skip(1) {
+        if is_limit {
+            request.limit = u64::from(word.as_str().parse::<u32>().ok()?);
+            is_limit = false;
+        } else if word.as_str() == "--serial" {
+            request.serial = true;
+        } else if word.as_str() == "--limit" {
+            is_limit = true;
+        } else if word.as_str() == "--help" {
+            request.help = true;
+        } else {
+            return None;
+        }
+    }
+    if is_limit { None } else { Some(request) }
+}

@@ -1,0 +1,34 @@
+-- Runs of permutations by their plans.
+use Rattle.std.specs.Prelude.{◌≡◌, List, [], ◌∷◌, length, Result, IfOk}
+use Rattle.std.specs.Global.{Vec}
+use Rattle.session_machine.specs.Machine.{Blocks}
+use Rattle.session_seats.specs.declared.fault.ThreadFault.{ThreadFault}
+use Rattle.session_threads.specs.Closing.{ClosedOf}
+use Rattle.session_threads.specs.Crews.{RanBy}
+use Rattle.spec_parser.specs.declared.tree.Entry.{Entry}
+use Rattle.spec_parser.specs.Trees.{EntryTree, SpecTree, perm_view}
+use Rattle.permutation_plans.specs.Launches.{launches}
+use Rattle.spec_files.specs.Plans.{Planning, order_after}
+
+-- it is a plan of the permutation with these entries
+pub record IsPlanOf (spec : SpecTree) (entries : List EntryTree) (plan : Planning) : Type 0 where
+  pub launches : plan.launches ≡ launches spec entries
+  pub own : plan.entries ≡ entries
+
+-- these are plans of these permutations, in the same order; there may be fewer
+abbrev pub ArePlans : SpecTree → List (Vec Entry) → List Planning → Type 0
+ArePlans spec taken [] = Unit {0}
+ArePlans spec [] (plan ∷ plans) = ⊥
+ArePlans spec (entries ∷ taken) (plan ∷ plans) = IsPlanOf spec (perm_view entries) plan × ArePlans spec taken plans
+
+-- a plan of the permutation with these entries has driven the closed run
+pub record RanAs (spec : SpecTree) (blocks : Blocks) (entries : List EntryTree) (closed : ClosedOf) : Type 0 where
+  pub plan : Planning
+  pub planned : IsPlanOf spec entries plan
+  pub ran : RanBy blocks (length spec.sessions) (order_after plan) closed
+
+-- each of these runs that was closed is one of the permutation at its place; there may be fewer runs
+abbrev pub RanAsEach : SpecTree → Blocks → List (Vec Entry) → List (Result ClosedOf ThreadFault) → Type 0
+RanAsEach spec blocks taken [] = Unit {0}
+RanAsEach spec blocks [] (run ∷ runs) = ⊥
+RanAsEach spec blocks (entries ∷ taken) (run ∷ runs) = IfOk run (RanAs spec blocks (perm_view entries)) × RanAsEach spec blocks taken runs

@@ -1,0 +1,18 @@
+//! What can happen at all: the permutations of a spec, run one after the other on the calling thread, by what came of them.
+#![tactic(auto)]
+
+mod ending;
+mod outcome;
+mod outcomes;
+mod play;
+mod serial;
+mod setups;
+mod transactions;
+mod verdict;
+
+pub use ending::Ending;
+pub use outcome::written;
+pub use outcomes::{Judged, Outcomes, outcomes_of};
+pub use serial::SerialOrder;
+pub use transactions::step_number;
+pub use verdict::Verdict;

@@ -1,0 +1,222 @@
+//! All permutations of a spec, counted by their outcomes, with a verdict on each.
+
+ghost use Rattle.std.specs.Prelude.{◌≡◌, IfOk, OnOk, length, map, string_bytes};
+ghost use Rattle.sql_blocks.specs.Blocks.{blocks_of};
+ghost use Rattle.spec_parser.specs.Trees.{entry_view, spec_view};
+ghost use Rattle.spec_parser.specs.Stands.{Stands};
+ghost use Rattle.permutation_plans.specs.Regular.{IsRegular};
+ghost use Rattle.outcome_counts.specs.Adding.{IsOneMore};
+ghost use Rattle.outcome_counts.specs.Counts.{Fate, HasRoom, counts_view};
+ghost use Rattle.run_outcomes.specs.Counting.{AllCounted, ComesTo, IsFate};
+
+use crate::ending::{Ending, ending_in};
+use crate::outcome::{outcome_of, tables_made};
+use crate::play::play;
+use crate::serial::{SerialOrder, serial_orders};
+use crate::transactions::transactions_of;
+use crate::verdict::{Verdict, verdict_of};
+use iso_lexer::Page;
+use outcome_counts::{Counted, Group};
+use permutation_lists::Permutations;
+use permutations::{RunFault, write_permutation};
+use session_machine::HistItem;
+use spec_parser::{Entry, Spec};
+use sql_blocks::Block;
+use std::alloc::Global;
+use std::sync::Wait;
+
+/// The verdict on an outcome, and the serial orders beside which it was held.
+#[derive(Drop)]
+pub struct Judged<'t> {
+    pub verdict: Verdict,
+    pub orders: Vec<SerialOrder<'t>>,
+}
+
+/// What can happen: the tables that the file makes, how many permutations there are, how they are counted, and a verdict on each of
+/// their outcomes.
+#[derive(Drop)]
+pub struct Outcomes<'t> {
+    pub tables: Vec<String>,
+    pub permutations: u64,
+    pub counted: Counted<'t>,
+    pub judged: Vec<Judged<'t>>,
+}
+
+/// Why a permutation was not set up.
+fn setup_fault(
+    alloc: Global,
+    spec: &Spec<'_>,
+    entries: &[Entry],
+    items: &[HistItem<'_>],
+) -> RunFault {
+    let mut text = Page::new(alloc);
+    let mut notes = Page::new(alloc);
+    match write_permutation(alloc, spec, entries, items, &mut text, &mut notes) {
+        Err(fault) => fault,
+        Ok(_) => RunFault::SetupWaits,
+    }
+}
+
+/// Counts a permutation that has this history.
+fn count_history<'t>(
+    alloc: Global,
+    spec: &Spec<'_>,
+    blocks: &[Block<'t>],
+    names: &[String],
+    entries: &[Entry],
+    items: &[HistItem<'t>],
+    counted: &mut Counted<'t>,
+) -> Result<(), RunFault>
+    requires spec { Stands (spec_view spec.now) }
+    requires room { HasRoom (counts_view counted.old) }
+    requires regular { IsRegular (spec_view spec.now) (blocks_of blocks.now) (map entry_view entries.now) items.now }
+    ensures { OnOk result ((fate : Fate) × IsFate (spec_view spec.now) (blocks_of blocks.now) (map string_bytes names.now) (map entry_view entries.now) items.now fate × IsOneMore (counts_view counted.old) (counts_view counted.new) fate) }
+{
+    match ending_in(alloc, spec, entries, items)? {
+        Ending::NotSetUp => Err(setup_fault(alloc, spec, entries, items)),
+        Ending::Blocked => {
+            counted.add_blocked();
+            Ok(())
+        }
+        Ending::Waits => {
+            counted.add_waiting();
+            Ok(())
+        }
+        Ending::Whole => {
+            let outcome = outcome_of(alloc, spec, blocks, names, entries, items)?;
+            counted.add(alloc, outcome, entries)?;
+            Ok(())
+        }
+    }
+}
+
+/// Runs a permutation, and counts it.
+fn count_one<'t, R: Wait>(
+    rt: &R,
+    alloc: Global,
+    spec: &Spec<'_>,
+    blocks: &[Block<'t>],
+    names: &[String],
+    entries: &[Entry],
+    counted: &mut Counted<'t>,
+) -> Result<(), RunFault>
+    requires spec { Stands (spec_view spec.now) }
+    requires room { HasRoom (counts_view counted.old) }
+    ensures { OnOk result ((fate : Fate) × ComesTo (spec_view spec.now) (blocks_of blocks.now) (map string_bytes names.now) (map entry_view entries.now) fate × IsOneMore (counts_view counted.old) (counts_view counted.new) fate) }
+{
+    let engine = play(rt, alloc, spec, blocks, entries)?;
+    let answer = count_history(
+        alloc,
+        spec,
+        blocks,
+        names,
+        entries,
+        engine.history(),
+        counted,
+    );
+    engine.end();
+    answer?;
+    Ok(())
+}
+
+/// Runs the permutations of a spec, up to so many, and counts them.
+fn count_all<'t, R: Wait>(
+    rt: &R,
+    alloc: Global,
+    spec: &Spec<'_>,
+    blocks: &[Block<'t>],
+    names: &[String],
+    limit: u64,
+) -> Result<(u64, Counted<'t>), RunFault>
+    requires spec { Stands (spec_view spec.now) }
+    ensures { IfOk result (λ all. AllCounted (spec_view spec.now) (blocks_of blocks.now) (map string_bytes names.now) all.0 (counts_view all.1)) }
+{
+    let mut permutations = Permutations::of(alloc, spec)?;
+    let mut counted = Counted::new(alloc);
+    let mut number = 0u64;
+    while permutations.advance(alloc)? {
+        if number >= limit {
+            return Err(RunFault::TooManyPermutations);
+        }
+        number += 1;
+        count_one(
+            rt,
+            alloc,
+            spec,
+            blocks,
+            names,
+            permutations.entries(),
+            &mut counted,
+        )?;
+    }
+    Ok((number, counted))
+}
+
+/// The verdict on an outcome.
+fn judge<'t, R: Wait>(
+    rt: &R,
+    alloc: Global,
+    spec: &Spec<'_>,
+    blocks: &[Block<'t>],
+    names: &[String],
+    group: &Group<'t>,
+) -> Result<Judged<'t>, RunFault>
+    requires spec { Stands (spec_view spec.now) }
+{
+    let lists = transactions_of(alloc, spec, blocks, &group.nearest)?;
+    let orders = serial_orders(rt, alloc, spec, blocks, names, &lists)?;
+    let verdict = verdict_of(
+        rt,
+        alloc,
+        spec,
+        blocks,
+        names,
+        &group.outcome,
+        &orders,
+        &lists,
+    )?;
+    Ok(Judged { verdict, orders })
+}
+
+/// The verdicts on all outcomes, in their order.
+fn judge_all<'t, R: Wait>(
+    rt: &R,
+    alloc: Global,
+    spec: &Spec<'_>,
+    blocks: &[Block<'t>],
+    names: &[String],
+    groups: &[Group<'t>],
+) -> Result<Vec<Judged<'t>>, RunFault>
+    requires spec { Stands (spec_view spec.now) }
+    ensures { IfOk result (λ judged. length judged.items ≡ length groups.now) }
+{
+    let mut all = Vec::new(alloc);
+    for group in groups {
+        all.push(judge(rt, alloc, spec, blocks, names, group)?)?;
+    }
+    Ok(all)
+}
+
+/// Runs the permutations of a spec, up to so many, and says what can happen. After `limit` permutations, with one more there, the
+/// run ends; so it does after a setup that fails or waits.
+pub fn outcomes_of<'t, R: Wait>(
+    rt: &R,
+    alloc: Global,
+    spec: &Spec<'_>,
+    blocks: &[Block<'t>],
+    limit: u64,
+) -> Result<Outcomes<'t>, RunFault>
+    requires spec { Stands (spec_view spec.now) }
+    ensures counted { IfOk result (λ o. AllCounted (spec_view spec.now) (blocks_of blocks.now) (map string_bytes o.tables.items) o.permutations (counts_view o.counted)) }
+    ensures judged { IfOk result (λ o. length o.judged.items ≡ length o.counted.groups.items) }
+{
+    let tables = tables_made(alloc, spec, blocks)?;
+    let (permutations, counted) = count_all(rt, alloc, spec, blocks, tables.as_slice(), limit)?;
+    let judged = judge_all(rt, alloc, spec, blocks, &tables, counted.groups.as_slice())?;
+    Ok(Outcomes {
+        tables,
+        permutations,
+        counted,
+        judged,
+    })
+}

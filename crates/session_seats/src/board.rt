@@ -1,0 +1,139 @@
+//! Which session's thread is to look at which runs of a crew, and who is woken.
+ghost use Rattle.std.specs.Prelude.{◌≡◌, ◌≤◌, IfErr};
+
+use crate::fault::ThreadFault;
+use std::alloc::Global;
+use std::hint::spin_loop;
+use std::sync::Wait;
+use std::sync::atomic::{AtomicU64, Ordering};
+use std::thread::Parker;
+
+/// How many runs a crew has, at most: each has a bit of its own.
+pub const MOST_RUNS: usize = 64;
+
+/// How often a thread looks at its desk before it sleeps.
+const LOOKS: u32 = 20;
+
+/// The bit of the run at this place.
+pub fn bit_of(place: usize) -> u64 {
+    if place < MOST_RUNS { 1 << place } else { 0 }
+}
+
+/// What a session's thread is to look at: a bit for each run, and where it sleeps while there is none.
+#[derive(Drop)]
+struct Desk {
+    runs: AtomicU64,
+    sleeper: Parker,
+}
+
+/// A desk for each session's thread, and which runs are over. No proof rests on it: it says alone who looks where, and what
+/// is done is found behind the locks of the runs.
+#[derive(Drop)]
+pub struct Board {
+    desks: Vec<Desk>,
+    over: AtomicU64,
+    all: u64,
+}
+
+impl Board {
+    /// For the control session and so many sessions beside it, and for so many runs.
+    pub fn new(alloc: Global, sessions: u32, runs: usize) -> Result<Board, ThreadFault>
+        requires { sessions ≤ 64 }
+        ensures { IfErr result (λ fault. fault ≡ ThreadFault.Memory) }
+    {
+        let mut desks = Vec::new(alloc);
+        for _ in 0..sessions + 1 {
+            let desk = Desk {
+                runs: AtomicU64::new(0),
+                sleeper: Parker::new(),
+            };
+            if desks.push(desk).is_err() {
+                return Err(ThreadFault::Memory);
+            }
+        }
+        let mut all = 0;
+        for place in 0..runs {
+            all |= bit_of(place);
+        }
+        Ok(Board {
+            desks,
+            over: AtomicU64::new(0),
+            all,
+        })
+    }
+
+    /// Puts runs on a session's desk, and wakes its thread where the desk was empty.
+    pub fn put(&self, session: u32, runs: u64) {
+        if let Some(desk) = self.desks.get(session as usize) {
+            if desk.runs.fetch_or(runs, Ordering::SeqCst) == 0 {
+                desk.sleeper.unpark();
+            }
+        }
+    }
+
+    /// Puts what was handed to each session on its desk: the first is the control session's. Of the own session's thread
+    /// nobody has to wake.
+    pub fn hand_on(&self, own: u32, hands: &[u64]) {
+        let mut session = 0;
+        for runs in hands {
+            if *runs != 0 && session != own {
+                self.put(session, *runs);
+            }
+            session = session.wrapping_add(1);
+        }
+    }
+
+    /// The run at this place is over; where all are, everyone is woken.
+    pub fn end(&self, place: usize) {
+        let bit = bit_of(place);
+        let over = self.over.fetch_or(bit, Ordering::SeqCst) | bit;
+        if over == self.all {
+            for desk in &self.desks {
+                desk.sleeper.unpark();
+            }
+        }
+    }
+
+    /// Whether all runs are over.
+    fn is_over(&self) -> bool {
+        self.over.load(Ordering::SeqCst) == self.all
+    }
+
+    /// Takes what lies on a desk, where something does.
+    fn look(&self, desk: &Desk) -> u64 {
+        if desk.runs.load(Ordering::SeqCst) == 0 {
+            return 0;
+        }
+        desk.runs.swap(0, Ordering::SeqCst)
+    }
+
+    /// Takes what lies on the session's desk; looks a few times, and sleeps then, until there is something. Takes nothing
+    /// where all runs are over.
+    pub fn take<R: Wait>(&self, rt: &R, session: u32) -> u64 {
+        let Some(desk) = self.desks.get(session as usize) else {
+            return 0;
+        };
+        for _ in rt.forever() {
+            for _ in 0..LOOKS {
+                let runs = self.look(desk);
+                if runs != 0 {
+                    return runs;
+                }
+                if self.is_over() {
+                    return 0;
+                }
+                spin_loop();
+            }
+            desk.sleeper.park(rt);
+        }
+        unreachable!()
+    }
+
+    /// Takes what lies on the session's desk, be it nothing.
+    pub fn take_at_once(&self, session: u32) -> u64 {
+        match self.desks.get(session as usize) {
+            Some(desk) => self.look(desk),
+            None => 0,
+        }
+    }
+}
