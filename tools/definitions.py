@@ -48,7 +48,7 @@ What a reader has to believe stands in the `specs/` folders: definitions on plai
 
 The program's `serve` reads the input and calls `run_spec` on those bytes, whose contract is `SpecIsRun`. Its field `told` says: what was put out is what `FileSays` gives for the bytes that were read. `FileSays`, with all that it
 names in turn, comes to {lines:,} lines of {count} definitions, without imports, comments and blank lines. Of these, {reading} lines read a file; the other {other} go from its spec and statements
-to the text. (All `specs/` have {there:,} lines. {inner:,} of these stand in a folder `Inner`: only private functions and proofs use them.)
+to the text. (All `specs/` have {there:,} lines. What follows the code stands in a folder `Code`; {inner:,} lines in a folder `Inner`, which only private functions and proofs use.)
 
 How to read the files: `a ∷ as` is a list with its first element, `++` joins lists, `×` is "and" with a value for each side, `≡` is equality, `x ↦ y` is a case. A **view** (`spec_view`) is the
 plain data behind a value of the code. A **reading function** (`expr_at`) goes through tokens from the left and says what comes first, a value or a fault; the **grammar** beside it (`Spells`) is a
@@ -88,7 +88,7 @@ def modules():
     for crate in sorted(os.listdir(f"{TOP}/crates")):
         folder = f"{TOP}/crates/{crate}/specs"
         for at, _, names in os.walk(folder):
-            for name in sorted(it for it in names if it.endswith(".antt") and it not in ("Lib.antt", "Inner.antt")):
+            for name in sorted(it for it in names if it.endswith(".antt") and it not in ("Lib.antt", "Code.antt", "Inner.antt")):
                 path = os.path.join(at, name)
                 inner = os.path.relpath(path, folder)[:-5].replace("/", ".")
                 with open(path, encoding="utf-8") as it:
@@ -229,8 +229,9 @@ def families():
 def files_of(crate):
     """Returns the files of the crate's specs/, in the order in which Lib.antt names them."""
     path = f"crates/{crate}/specs/Lib.antt"
-    names = re.findall(r"^(?:pub )?mod (\w+)", text_of(path), re.M) if os.path.isfile(f"{TOP}/{path}") else []
-    return [f"{crate}.specs.{it}" for it in names if it != "Inner"]
+    names_in = lambda file: re.findall(r"^(?:pub )?mod (\w+)", text_of(file), re.M) if os.path.isfile(f"{TOP}/{file}") else []
+    parts = {"Code": [f"Code.{it}" for it in names_in(f"crates/{crate}/specs/Code.antt")], "Inner": []}
+    return [f"{crate}.specs.{it}" for name in names_in(path) for it in parts.get(name, [name])]
 
 
 def head_of(lines):
@@ -346,7 +347,7 @@ def places(line, crates, crate=None):
             if part in ("src", "specs", "proofs"):
                 room = None if name else part
                 word = name
-            elif part == "Inner" and name:
+            elif part in ("Code", "Inner") and name:
                 part = "specs"
             else:
                 part = room

@@ -6,13 +6,14 @@ use Rattle.std.specs.Char.{is_ascii_digit}
 use Rattle.std.specs.Option.{option_map_or}
 use Rattle.std.specs.Global.{Vec}
 use Rattle.std.proofs.lemmas.Bool.{le-ltb, eqb-true}
+use Rattle.iso_lexer.specs.declared.limits.TheConstants.{LONGEST_FILE}
 use Rattle.iso_lexer.specs.Bytes.{is_blank, is_name_start, is_name_byte}
 use Rattle.iso_lexer.specs.Inner.Runs.{passes, spelled}
 use Rattle.iso_lexer.specs.SpecTokens.{SpecToken, name, sign, token_view, at_views}
 use Rattle.iso_lexer.specs.Names.{quoted}
 use Rattle.iso_lexer.specs.Lexing.{Front, gap, token, fault, Reads, ReadsBy}
 use Rattle.iso_lexer.specs.Inner.Quotes.{quoted_from, quoted_front}
-use Rattle.iso_lexer.specs.SpecText.{block_token, spec_front, spec_signs, LexAnswers, Lexes, longest_file}
+use Rattle.iso_lexer.specs.SpecText.{block_token, spec_front, spec_signs, LexAnswers, Lexes}
 use Rattle.iso_lexer.specs.Inner.SpecFronts.{block_front, word_front, ascii_front}
 use Rattle.iso_lexer.specs.declared.fault.Fault.{Fault}
 use Rattle.iso_lexer.specs.declared.fault.LexFault.{LexFault}
@@ -78,11 +79,11 @@ spec_rules = record { nothing = refl; shorter = front_shorter }
 
 -- ---- the whole file
 
-pub lexes : (text : List ℕ) (answer : Result (List (At SpecToken)) Fault) → length text ≤ longest_file → Reads spec_front (length text) text answer → Lexes text answer
-lexes text answer le h = rw (le-ltb longest_file (length text) le) h
+pub lexes : (text : List ℕ) (answer : Result (List (At SpecToken)) Fault) → length text ≤ LONGEST_FILE → Reads spec_front (length text) text answer → Lexes text answer
+lexes text answer le h = rw (le-ltb LONGEST_FILE (length text) le) h
 
 -- what is read of a file that is no longer than the longest
-pub read_whole : (text : List ℕ) (answer : Result (Vec (At SpecTok)) LexFault) → length text ≤ longest_file → ReadsBy token_view spec_front text answer → LexAnswers text answer
+pub read_whole : (text : List ℕ) (answer : Result (Vec (At SpecTok)) LexFault) → length text ≤ LONGEST_FILE → ReadsBy token_view spec_front text answer → LexAnswers text answer
 read_whole text (Ok ts) le h = lexes text (Ok (at_views ts.items)) le h
 read_whole text (Err errors.Memory) le h = record { short = le; token = h }
 read_whole text (Err (errors.Fault f)) le h = lexes text (Err f) le h
@@ -92,4 +93,4 @@ one_of_two true text f x y p q = p ∙ sym q
 one_of_two false text f x y p q = one_reading spec_front (length text) text x y spec_rules.nothing p q
 
 pub one_lexing : (text : List ℕ) (x y : Result (List (At SpecToken)) Fault) → Lexes text x → Lexes text y → x ≡ y
-one_lexing text x y p q = one_of_two (nat_lt longest_file (length text)) text _ x y p q
+one_lexing text x y p q = one_of_two (nat_lt LONGEST_FILE (length text)) text _ x y p q

@@ -7,6 +7,7 @@ use Rattle.std.specs.Option.{option_map_or}
 use Rattle.std.proofs.Math.Seq.{take-suc}
 use Rattle.std.proofs.lemmas.Bool.{eqb-true, eqb-false}
 use Rattle.std.proofs.lemmas.List.Sums.{prefix_len-le-length, passes_at_first}
+use Rattle.iso_lexer.specs.declared.limits.TheConstants.{LONGEST_FILE}
 use Rattle.iso_lexer.specs.Bytes.{is_blank, is_name_start}
 use Rattle.iso_lexer.specs.Inner.Runs.{passes, run_of, after_run, spelled}
 use Rattle.iso_lexer.specs.declared.fault.Fault.{Fault}
@@ -78,4 +79,4 @@ of_two true text f ts h = absurd cc
 of_two false text f ts h = reads_slices Spells spec_front front_cut text ts h
 
 pub are_slices : (text : List ℕ) (ts : List (At SpecToken)) → Lexes text (Ok ts) → AllByRecursion (LiesAt text) ts
-are_slices text ts h = of_two (nat_lt 1048576 (length text)) text _ ts h
+are_slices text ts h = of_two (nat_lt LONGEST_FILE (length text)) text _ ts h

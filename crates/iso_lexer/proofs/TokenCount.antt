@@ -2,6 +2,7 @@
 use Rattle.std.proofs.Common.{◌≡◌, ℕ, ◌<◌, ◌≤◌, Bool, true, false, List, [], ◌∷◌, length, Result, Ok, Err, refl, sym, ◌∙◌, arith, length-append}
 use Rattle.std.specs.Prelude.{MatchBool, nat_lt}
 use Rattle.std.proofs.lemmas.Bool.{ltb-false}
+use Rattle.iso_lexer.specs.declared.limits.TheConstants.{LONGEST_FILE}
 use Rattle.iso_lexer.specs.declared.token.At.{At}
 use Rattle.iso_lexer.specs.declared.fault.Fault.{Fault}
 use Rattle.iso_lexer.specs.SpecTokens.{SpecToken}
@@ -41,9 +42,9 @@ few_read front rules total text answer (fails kind n e is) = rw is tt
 no_fault : (ts : List (At SpecToken)) (f : Fault) → ◌≡◌ {A = Result (List (At SpecToken)) Fault} (Ok ts) (Err f) → ⊥
 no_fault ts f e = cc
 
-few_of : (b : Bool) (text : List ℕ) (ts : List (At SpecToken)) (f : Fault) → nat_lt 1048576 (length text) ≡ b → MatchBool b (◌≡◌ {A = Result (List (At SpecToken)) Fault} (Ok ts) (Err f)) (Reads spec_front (length text) text (Ok ts)) → (length text ≤ 1048576) × (length ts ≤ length text)
+few_of : (b : Bool) (text : List ℕ) (ts : List (At SpecToken)) (f : Fault) → nat_lt LONGEST_FILE (length text) ≡ b → MatchBool b (◌≡◌ {A = Result (List (At SpecToken)) Fault} (Ok ts) (Err f)) (Reads spec_front (length text) text (Ok ts)) → (length text ≤ LONGEST_FILE) × (length ts ≤ length text)
 few_of true text ts f e h = absurd (no_fault ts f h)
-few_of false text ts f e h = (ltb-false 1048576 (length text) e, few_read spec_front spec_rules (length text) text (Ok ts) h)
+few_of false text ts f e h = (ltb-false LONGEST_FILE (length text) e, few_read spec_front spec_rules (length text) text (Ok ts) h)
 
-pub few_tokens : (text : List ℕ) (ts : List (At SpecToken)) → Lexes text (Ok ts) → (length text ≤ 1048576) × (length ts ≤ length text)
-few_tokens text ts h = few_of (nat_lt 1048576 (length text)) text ts _ refl h
+pub few_tokens : (text : List ℕ) (ts : List (At SpecToken)) → Lexes text (Ok ts) → (length text ≤ LONGEST_FILE) × (length ts ≤ length text)
+few_tokens text ts h = few_of (nat_lt LONGEST_FILE (length text)) text ts _ refl h

@@ -4,6 +4,7 @@ use Rattle.std.specs.Global.{Vec}
 use Rattle.std.specs.List.{before_first, suffix_len}
 use Rattle.std.specs.Option.{option_map_or}
 use Rattle.std.specs.Char.{is_ascii_digit}
+use Rattle.iso_lexer.specs.declared.limits.TheConstants.{LONGEST_FILE}
 use Rattle.iso_lexer.specs.declared.fault.FaultKind.TheVariants.{UnterminatedBlock, UnterminatedName, NewlineInName, UnexpectedByte, FileTooLong}
 use Rattle.iso_lexer.specs.declared.fault.Fault.{Fault}
 use Rattle.iso_lexer.specs.declared.fault.LexFault.{LexFault}
@@ -46,17 +47,13 @@ spec_front (b ∷ bs) =
 
 -- ---- whole texts
 
--- the most bytes that a spec file has
-abbrev pub longest_file : ℕ
-longest_file = 1048576
-
 -- A file that is too long has that fault alone.
 abbrev pub Lexes : List ℕ → Result (List (At SpecToken)) Fault → Type 0
-Lexes text answer = MatchBool (nat_lt longest_file (length text)) (answer ≡ Err (record { kind = FileTooLong; at = longest_file })) (Reads spec_front (length text) text answer)
+Lexes text answer = MatchBool (nat_lt LONGEST_FILE (length text)) (answer ≡ Err (record { kind = FileTooLong; at = LONGEST_FILE })) (Reads spec_front (length text) text answer)
 
 -- room is wanted only of a file that isn't too long, and has a token before any fault
 pub record WantsRoom (text : List ℕ) : Type 0 where
-  pub short : length text ≤ longest_file
+  pub short : length text ≤ LONGEST_FILE
   pub token : HasToken spec_front text
 
 -- What was returned is so, unless memory ran out.

@@ -4,17 +4,18 @@ ghost use Rattle.std.specs.Prelude.{◌≡◌, ◌≤◌, List, ℕ, Result, Ok,
 ghost use Rattle.std.specs.List.{AllByRecursion};
 ghost use Rattle.iso_lexer.specs.SpecSpelling.{LiesAt};
 ghost use Rattle.iso_lexer.specs.SpecTokens.{SpecToken};
-ghost use Rattle.iso_lexer.specs.SpecText.{LexAnswers, Lexes, longest_file};
+ghost use Rattle.iso_lexer.specs.SpecText.{LexAnswers, Lexes};
+ghost use Rattle.iso_lexer.specs.declared.limits.TheConstants.{LONGEST_FILE};
 ghost use Rattle.iso_lexer.specs.declared.fault.Fault.{Fault};
 ghost use Rattle.iso_lexer.specs.declared.token.At.{At};
 
 use crate::fault::{Fault, FaultKind, LexFault};
 use crate::front::front;
+use crate::limits::LONGEST_FILE;
 use crate::piece::Piece;
 use crate::spec_token::SpecTok;
 use crate::token::At;
 use crate::tokens::{Token, tokens};
-use crate::whole::LONGEST_FILE;
 use std::alloc::Global;
 
 impl<'a> Token<'a> for SpecTok<'a> {
@@ -57,5 +58,5 @@ pub fn tokens_are_slices()
 
 /// A file that has tokens is no longer than the longest, and has no more tokens than bytes.
 pub fn tokens_are_few()
-    ensures { (text : List ℕ) (ts : List (At SpecToken)) → Lexes text (Ok ts) → (length text ≤ longest_file) × (length ts ≤ length text) }
+    ensures { (text : List ℕ) (ts : List (At SpecToken)) → Lexes text (Ok ts) → (length text ≤ LONGEST_FILE) × (length ts ≤ length text) }
 {}

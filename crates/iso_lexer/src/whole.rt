@@ -9,9 +9,6 @@ use std::alloc::{AllocError, Global};
 use std::error::Error;
 use std::fmt;
 
-/// The most bytes that a spec file has.
-pub const LONGEST_FILE: usize = 1_048_576;
-
 /// Why a source was not read to its end.
 #[derive(Debug, Drop)]
 pub enum ReadFault {

@@ -1,5 +1,5 @@
 pub mod Rows
 pub mod Outcomes
 pub mod Counts
-pub mod Adding
+pub mod Code
 pub mod Inner

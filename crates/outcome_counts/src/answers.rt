@@ -2,6 +2,7 @@
 
 ghost use Rattle.std.specs.Prelude.{◌≡◌, ◌≤◌, ◌++◌, ◌&&◌, IfOk, OnOk, flat_map, length, map};
 ghost use Rattle.std.specs.List.{enumerate_from};
+ghost use Rattle.iso_lexer.specs.declared.limits.TheConstants.{MOST_SESSIONS};
 ghost use Rattle.spec_parser.specs.Trees.{session_view, spec_view, step_view, StepTree};
 ghost use Rattle.outcome_counts.specs.Outcomes.{answers_in, answers_of, is_answer, is_in, is_step_of, session_answers};
 ghost use Rattle.outcome_counts.specs.Inner.Answers.{lists_of};
@@ -98,7 +99,7 @@ fn push_sessions<'t>(
     items: &[HistItem<'t>],
     sessions: &[SessionPart<'_>],
 ) -> Result<(), AllocError>
-    requires { length sessions.now ≤ 64 }
+    requires { length sessions.now ≤ MOST_SESSIONS }
     ensures { OnOk result (lists_of answers.new.items ≡ lists_of answers.old.items ++ flat_map (session_answers items.now) (enumerate_from 1 (map session_view sessions.now))) }
 {
     for (place, session) in sessions.iter().enumerate() {
@@ -113,7 +114,7 @@ pub fn answers_of<'t>(
     spec: &Spec<'_>,
     items: &[HistItem<'t>],
 ) -> Result<Vec<Vec<Outcome<'t>>>, AllocError>
-    requires { length (spec_view spec.now).sessions ≤ 64 }
+    requires { length (spec_view spec.now).sessions ≤ MOST_SESSIONS }
     ensures { IfOk result (λ answers. lists_of answers.items ≡ answers_of (spec_view spec.now) items.now) }
 {
     let mut answers = Vec::new(alloc);

@@ -7,6 +7,7 @@ use Rattle.std.proofs.lemmas.List.Sums.{sum-map}
 use Rattle.std.specs.List.{AllByRecursion, enumerate_from}
 use Rattle.std.proofs.lemmas.List.{append-nil}
 use Rattle.std.proofs.lemmas.List.Concat.{length-flat_map}
+use Rattle.iso_lexer.specs.declared.limits.TheConstants.{MOST_STEPS}
 use Rattle.permutation_lists.specs.Inner.Prefixes.{each_first}
 use Rattle.permutation_lists.specs.Interleavings.{of_length, without, interleavings}
 use Rattle.std.specs.Global.{Vec}
@@ -115,7 +116,7 @@ few_steps ss i s lt is =
 pub all_steps : (ss : List SessionTree) → sum (map step_count ss) ≡ length (flat_map (λ (x : SessionTree). x.steps) ss)
 all_steps ss = sum-map step_count ss ∙ sym (length-flat_map (λ (x : SessionTree). x.steps) ss)
 
-pub few_turns : (ss : List SessionTree) → length (flat_map (λ (x : SessionTree). x.steps) ss) ≤ 1000 → AreShort (interleavings (map step_count ss))
+pub few_turns : (ss : List SessionTree) → length (flat_map (λ (x : SessionTree). x.steps) ss) ≤ MOST_STEPS → AreShort (interleavings (map step_count ss))
 few_turns ss few = short_interleavings (map step_count ss) (omega (arith, all_steps ss, few))
 
 -- ---- lines, or all

@@ -7,8 +7,8 @@ use Rattle.session_machine.specs.declared.event.Order.TheVariants.{Stop}
 use Rattle.session_machine.specs.declared.reply.HistItem.{HistItem}
 use Rattle.report_lines.specs.declared.progress.PlanProgress.{PlanProgress}
 use Rattle.report_lines.specs.History.{PermutationRun}
-use Rattle.report_lines.specs.Progress.{Keeps, KeepsFront, first_items}
-use Rattle.permutation_plans.specs.Fits.{FitsAfter}
+use Rattle.report_lines.specs.Code.Progress.{Keeps, KeepsFront, first_items}
+use Rattle.permutation_plans.specs.Code.Fits.{FitsAfter}
 
 pub further : (c : PermutationRun) (k : ℕ) (p : PlanProgress) → KeepsFront (first_items c k) p → KeepsFront (first_items c (k + 1)) p
 further c k p follows =

@@ -21,7 +21,7 @@ use Rattle.report_lines.specs.declared.history.RunState.{RunState}
 use Rattle.report_lines.specs.declared.history.RunState.TheVariants.{Due, Whole, Invalid}
 use Rattle.report_lines.specs.History.{PermutationRun}
 use Rattle.report_lines.specs.Report.{Report, report as told}
-use Rattle.report_lines.specs.Walk.{walked}
+use Rattle.report_lines.specs.Code.Walk.{walked}
 use Rattle.report_lines.specs.Starts.{order_of}
 use Rattle.report_lines.specs.Due.{Launches, segment, went_well, is_over, orders, launch, due_setup, teardowns_so_far, due_entry, due}
 use Rattle.report_lines.specs.Inner.Due.{due_last}
@@ -31,12 +31,12 @@ use Rattle.report_lines.proofs.Same.{report_is}
 use Rattle.report_text.specs.Replies.{last_outcome}
 use Rattle.report_text.specs.LineText.{line_text}
 use Rattle.report_text.specs.Said.{Ending, whole, invalid, setup_failed, setup_waits, too_many, Said, says, only_ends, ◌>>◌}
-use Rattle.report_text.specs.Turns.{is_whole, in_turn, setup_numbers, teardown_numbers, setup_ending, setup_turn, teardown_turn, state_says, permutation_in_turn}
+use Rattle.report_text.specs.Code.Turns.{is_whole, in_turn, setup_numbers, teardown_numbers, setup_ending, setup_turn, teardown_turn, state_says, permutation_in_turn}
 use Rattle.report_text.proofs.Saying.{after_whole, at_end, permutation_run}
 use Rattle.report_text.proofs.Ordered.{session_in, setups_launch, setups_number, own_launch, parts_launch, permutation_turn}
 use Rattle.permutation_plans.specs.Launches.{launches, run_of, due_in}
 use Rattle.permutation_plans.specs.Launches as old
-use Rattle.permutation_plans.specs.Fits.{IsOrdered, FitsAfter, DueIsNextOrder}
+use Rattle.permutation_plans.specs.Code.Fits.{IsOrdered, FitsAfter, DueIsNextOrder}
 use Rattle.permutation_plans.specs.Regular.{next_order, LaunchesFit, IsRegular}
 use Rattle.permutation_plans.specs.Whole.{order_at, NextIsDue}
 use Rattle.permutation_plans.proofs.Whole.{else_same, at_append, length_launches, beyond, past, launch_at, IsStateAt, state_at, length_tasks, next_is_due}

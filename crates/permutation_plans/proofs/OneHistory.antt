@@ -18,7 +18,7 @@ use Rattle.session_machine.specs.Inner.Steps.{launch_of, leave_of, step_of, step
 use Rattle.spec_parser.specs.Trees.{EntryTree, SpecTree}
 use Rattle.permutation_plans.specs.Regular.{next_order, IsRegular}
 use Rattle.permutation_plans.proofs.Next.{regular_fits}
-use Rattle.permutation_plans.specs.Fits.{IsOrdered, FitsAfter}
+use Rattle.permutation_plans.specs.Code.Fits.{IsOrdered, FitsAfter}
 
 -- what can come next: where no session has the turn the order, else that session's step
 abbrev coming : Option ℕ → Order → Option Event

@@ -14,7 +14,7 @@ use Rattle.report_lines.specs.declared.history.RunState.{RunState}
 use Rattle.report_lines.specs.declared.history.RunState.TheVariants.{Due, Whole, Invalid}
 use Rattle.report_lines.specs.History.{PermutationRun}
 use Rattle.report_lines.specs.Report.{Report, moment_of, active}
-use Rattle.report_lines.specs.Walk.{all_polls, has_unreported, before_launch, after_launch, walked_from, walked}
+use Rattle.report_lines.specs.Code.Walk.{all_polls, has_unreported, before_launch, after_launch, walked_from, walked}
 use Rattle.report_lines.specs.Due.{Launches, Planned, orders, went_well, is_over, launch, due_setup, teardowns_so_far, due_entry, due}
 use Rattle.report_lines.specs.Inner.Due.{due_last}
 use Rattle.permutation_plans.specs.Launches.{launches, launch_of_entry, due_in}

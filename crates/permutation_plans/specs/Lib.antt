@@ -1,9 +1,9 @@
 pub mod Launches
 pub mod Regular
-pub mod Fits
 pub mod Worked
 pub mod Waited
 pub mod Whole
 pub mod FreeLaunches
 pub mod FreeRegular
 pub mod FreeWaited
+pub mod Code

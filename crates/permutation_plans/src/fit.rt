@@ -1,10 +1,10 @@
 //! Whether a history launched what its permutation launches.
 ghost use Rattle.std.specs.Prelude.{◌≡◌, ◌↔◌, ◌<◌, ◌^◌, [], length, map, IsTrue, true, IfOk, OnOk, OnErr};
 ghost use Rattle.spec_parser.specs.Trees.{spec_view, entry_view};
-ghost use Rattle.report_lines.specs.Progress.{KeepsFront};
+ghost use Rattle.report_lines.specs.Code.Progress.{KeepsFront};
 ghost use Rattle.report_lines.specs.Starts.{is_order};
 ghost use Rattle.permutation_plans.specs.Launches.{run_of, due_after};
-ghost use Rattle.permutation_plans.specs.Fits.{IsOrdered, FitsAfter};
+ghost use Rattle.permutation_plans.specs.Code.Fits.{IsOrdered, FitsAfter};
 ghost use Rattle.permutation_plans.specs.Regular.{LaunchesFit};
 
 use crate::launches::Launches;

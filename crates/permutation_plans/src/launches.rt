@@ -4,7 +4,7 @@ ghost use Rattle.std.specs.Option.{option_map_or};
 ghost use Rattle.spec_parser.specs.Trees.{StepTree, part_view, session_view, spec_view, entry_view};
 ghost use Rattle.spec_parser.specs.Numbered.{step_of_entry};
 ghost use Rattle.permutation_plans.specs.Launches.{launch_in, own_launches, launch_of_entry, launches, run_of, due_after};
-ghost use Rattle.report_lines.specs.Progress.{KeepsFront, IsSettled};
+ghost use Rattle.report_lines.specs.Code.Progress.{KeepsFront, IsSettled};
 
 use report_lines::{PlanProgress, PlannedLaunch, PlannedRun, Schedule};
 use session_machine::{HistItem, Order};
@@ -121,7 +121,7 @@ fn steps(
 impl Launches {
     ghost use Rattle.std.specs.Prelude.{List};
     ghost use Rattle.session_machine.specs.declared.reply.HistItem.{HistItem};
-    ghost use Rattle.report_lines.specs.Progress.{KeepsFront, IsSettled};
+    ghost use Rattle.report_lines.specs.Code.Progress.{KeepsFront, IsSettled};
     ghost use Rattle.permutation_plans.specs.Launches.{launches, run_of, due_after};
 
     /// What a permutation of the spec launches.

@@ -2,7 +2,7 @@
 ghost use Rattle.std.specs.Prelude.{map};
 ghost use Rattle.spec_parser.specs.Trees.{spec_view, entry_view};
 ghost use Rattle.permutation_plans.specs.Regular.{HasOneHistory, EachHasOneHistory};
-ghost use Rattle.permutation_plans.specs.Fits.{DueIsNextOrder};
+ghost use Rattle.permutation_plans.specs.Code.Fits.{DueIsNextOrder};
 ghost use Rattle.permutation_plans.specs.Worked.{WorkedHistory};
 ghost use Rattle.permutation_plans.specs.Waited.{WaitedHistory};
 ghost use Rattle.permutation_plans.specs.FreeWaited.{WaitedFreeHistory};

@@ -7,7 +7,7 @@ use Rattle.std.specs.Global.{Vec}
 use Rattle.spec_parser.specs.declared.tree.Entry.{Entry}
 use Rattle.spec_parser.specs.Trees.{SpecTree, perm_view}
 use Rattle.spec_files.specs.declared.draft.Draft.{Draft}
-use Rattle.spec_files.specs.Drafts.{AreDrafts, listed}
+use Rattle.spec_files.specs.Drafts.{AreDrafts, entries_read}
 use Rattle.spec_files.specs.Plans.{Planning}
 use Rattle.permutations.specs.Inner.Runs.{ArePlans, IsPlanOf}
 
@@ -28,7 +28,7 @@ planned_front spec (e ∷ es) behind (p ∷ ps) are = (are.0, planned_front spec
 -- those that are written are drafts of the first, and the others are still to be written
 pub record Written (is_draft : Draft → Type 0) (taken left : List (Vec Entry)) (drafts : List Draft) : Type 0 where
   pub given : All is_draft drafts
-  pub entries : map listed drafts ++ left ≡ taken
+  pub entries : map entries_read drafts ++ left ≡ taken
 
 only : {X : Type 0} (P : X → Type 0) (x : X) → P x → All P (x ∷ [])
 only P x p zero or lt = p
@@ -39,22 +39,22 @@ pub written_more : (is_draft : Draft → Type 0) (taken left rest : List (Vec En
 written_more is_draft taken left rest drafts now entries draft so first pushed is own = record {
   given = subst (All is_draft) (sym pushed) (All-append is_draft drafts (draft ∷ []) so.given (only is_draft draft is));
   entries =
-      ap (λ (ds : List Draft). map listed ds ++ rest) pushed
-      ∙ ap (λ (es : List (Vec Entry)). es ++ rest) (map-append listed drafts (draft ∷ []))
-      ∙ append_assoc (map listed drafts) (draft.entries ∷ []) rest
-      ∙ ap (λ (e : Vec Entry). map listed drafts ++ e ∷ rest) own
-      ∙ ap (λ (es : List (Vec Entry)). map listed drafts ++ es) (sym first)
+      ap (λ (ds : List Draft). map entries_read ds ++ rest) pushed
+      ∙ ap (λ (es : List (Vec Entry)). es ++ rest) (map-append entries_read drafts (draft ∷ []))
+      ∙ append_assoc (map entries_read drafts) (draft.entries ∷ []) rest
+      ∙ ap (λ (e : Vec Entry). map entries_read drafts ++ e ∷ rest) own
+      ∙ ap (λ (es : List (Vec Entry)). map entries_read drafts ++ es) (sym first)
       ∙ so.entries;
 }
 
 pub written_all : (is_draft : Draft → Type 0) (taken left : List (Vec Entry)) (drafts : Vec Draft) → Written is_draft taken left drafts.items → length left ≡ 0 → AreDrafts is_draft taken drafts
-written_all is_draft taken [] drafts so none = record { given = so.given; entries = sym (append-nil (map listed drafts.items)) ∙ so.entries }
+written_all is_draft taken [] drafts so none = record { given = so.given; entries = sym (append-nil (map entries_read drafts.items)) ∙ so.entries }
 written_all is_draft taken (e ∷ es) drafts so none = absurd (omega (arith, none))
 
 pub written_none : (is_draft : Draft → Type 0) (taken left : List (Vec Entry)) (drafts : List Draft) → left ≡ taken → drafts ≡ [] → Written is_draft taken left drafts
 written_none is_draft taken left drafts same none = record {
   given = subst (All is_draft) (sym none) (λ k or lt. absurd (omega (arith, lt)));
-  entries = ap (λ (ds : List Draft). map listed ds ++ left) none ∙ same;
+  entries = ap (λ (ds : List Draft). map entries_read ds ++ left) none ∙ same;
 }
 
 -- plans of the first ones are plans of all

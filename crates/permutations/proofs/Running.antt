@@ -16,7 +16,7 @@ use Rattle.spec_parser.specs.Trees.{EntryTree, SpecTree, perm_view}
 use Rattle.permutation_plans.specs.Launches.{due_in}
 use Rattle.permutation_plans.specs.Regular.{IsRegular}
 use Rattle.permutation_plans.proofs.Next.{regular_of}
-use Rattle.permutation_plans.specs.Fits.{FitsAfter}
+use Rattle.permutation_plans.specs.Code.Fits.{FitsAfter}
 use Rattle.spec_files.specs.Inner.Resting.{IsAtRest}
 use Rattle.spec_files.specs.Plans.{Planning, order_after}
 use Rattle.spec_files.proofs.Driven.{plan_fits}

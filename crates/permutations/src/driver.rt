@@ -78,7 +78,7 @@ impl<'s, V: Versions> Driver<V> for Plan<'s> {
         self.go_on(alloc, engine.history())
     }
 
-    ghost use Rattle.spec_files.specs.Following.{follows_longer};
+    ghost use Rattle.spec_files.specs.Code.Following.{follows_longer};
 
     ghost goes_on = { λ plan items more follows. follows_longer _ more plan.progress follows };
 }

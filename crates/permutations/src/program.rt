@@ -2,7 +2,7 @@
 
 ghost use Rattle.std.specs.Prelude.{◌≡◌, ◌≢◌, ◌≤◌, ◌+◌, ◌||◌, ℕ, List, [], Option, Err, IsErrOf, false, length, map, string_bytes, true};
 ghost use Rattle.clap.specs.Words.{fault_of};
-ghost use Rattle.iso_lexer.specs.SpecText.{longest_file};
+ghost use Rattle.iso_lexer.specs.declared.limits.TheConstants.{LONGEST_FILE};
 ghost use Rattle.program_words.specs.Options.{program};
 ghost use Rattle.program_words.specs.Served.{IsServed, RunsFile};
 ghost use Rattle.program_words.specs.Shell.{FileRanFreely, ListsTold, Ran, Runs};
@@ -19,7 +19,7 @@ use std::thread::Threads;
 
 /// Lists the permutations of the file that was read.
 fn list<W: Sink>(alloc: Global, file: &[u8], limit: u64, out: &mut W) -> Result<(), RunFault>
-    requires { length file.now ≤ longest_file + 1 }
+    requires { length file.now ≤ LONGEST_FILE + 1 }
     ensures listed { (notes : Option (List ℕ)) → ListsTold file.now limit (W.put_so_far out.old) (W.put_so_far out.new) notes notes result }
     ensures read { result ≢ Err RunFault.Read }
     ensures write { IsErrOf result RunFault.Write → W.failed out.new ≡ true }
@@ -36,7 +36,7 @@ fn run_freely<W: Sink, N: Sink, R: Threads + Wait + Sync>(
     out: &mut W,
     err: &mut N,
 ) -> Result<(), RunFault>
-    requires { length file.now ≤ longest_file + 1 }
+    requires { length file.now ≤ LONGEST_FILE + 1 }
     ensures ran { FileRanFreely file.now (W.put_so_far out.old) (W.put_so_far out.new) (N.put_so_far err.old) (N.put_so_far err.new) result }
     ensures read { result ≢ Err RunFault.Read }
     ensures write { IsErrOf result RunFault.Write → (W.failed out.new || N.failed err.new) ≡ true }
@@ -54,7 +54,7 @@ fn run_in_order<W: Sink, N: Sink, R: Threads + Wait + Sync>(
     out: &mut W,
     err: &mut N,
 ) -> Result<(), RunFault>
-    requires { length file.now ≤ longest_file + 1 }
+    requires { length file.now ≤ LONGEST_FILE + 1 }
     ensures ran { Ran file.now limit (W.put_so_far out.old) (W.put_so_far out.new) (N.put_so_far err.old) (N.put_so_far err.new) result }
     ensures read { result ≢ Err RunFault.Read }
     ensures write { IsErrOf result RunFault.Write → (W.failed out.new || N.failed err.new) ≡ true }
@@ -72,7 +72,7 @@ fn run<W: Sink, N: Sink, R: Threads + Wait + Sync>(
     out: &mut W,
     err: &mut N,
 ) -> Result<(), RunFault>
-    requires { length file.now ≤ longest_file + 1 }
+    requires { length file.now ≤ LONGEST_FILE + 1 }
     ensures runs { Runs options file.now (W.put_so_far out.old) (W.put_so_far out.new) (N.put_so_far err.old) (N.put_so_far err.new) result }
     ensures read { result ≢ Err RunFault.Read }
     ensures write { IsErrOf result RunFault.Write → (W.failed out.new || N.failed err.new) ≡ true }
@@ -96,7 +96,7 @@ fn run_file<W: Sink, N: Sink, R: Threads + Wait + Sync>(
     out: &mut W,
     err: &mut N,
 ) -> u8
-    requires { length file.now ≤ longest_file + 1 }
+    requires { length file.now ≤ LONGEST_FILE + 1 }
     ensures { RunsFile options file.now there (W.failed out.new) (W.put_so_far out.old) (W.put_so_far out.new)
         (N.failed err.new) (N.put_so_far err.old) (N.put_so_far err.new) result }
 {

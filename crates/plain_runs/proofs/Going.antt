@@ -28,7 +28,7 @@ use Rattle.plain_runs.specs.Alone.{next_event, IsOfAlone, RefusesNext}
 use Rattle.spec_files.specs.Faults.{thread_fault}
 use Rattle.plain_runs.specs.Inner.Next.{IsNextEvent}
 use Rattle.spec_files.specs.Plans.{Planning, order_after, IsFollowing}
-use Rattle.spec_files.specs.Following.{follows_longer}
+use Rattle.spec_files.specs.Code.Following.{follows_longer}
 
 -- what the engine did since it was opened is what the plan ordered at first, and orders now
 pub record IsUnderWay (first plan : Planning) (opened e : Engine) : Type 0 where

@@ -1,7 +1,7 @@
 //! Prints the permutations of a file, each run on the calling thread alone.
 
 ghost use Rattle.std.specs.Prelude.{◌≡◌, ◌≤◌, ◌||◌, [], ◌∷◌, Ok, length, map, true, IfErr, IsErrOf, IsTrue, IsUtf8};
-ghost use Rattle.iso_lexer.specs.SpecText.{longest_file};
+ghost use Rattle.iso_lexer.specs.declared.limits.TheConstants.{LONGEST_FILE};
 ghost use Rattle.sql_blocks.specs.Blocks.{blocks_of};
 ghost use Rattle.spec_parser.specs.Trees.{entry_view, spec_view};
 ghost use Rattle.spec_parser.specs.Stands.{Stands};
@@ -84,7 +84,7 @@ pub fn print_alone<W: Sink, N: Sink, R: Wait>(
         ((file : File) × (said : Said) × FileIs bytes.now (Ok file) × Prints file.spec file.blocks limit (permutations_of file.spec) said
         × IsTold (W.put_so_far out.old) (W.put_so_far out.new) (N.put_so_far notes.old) (N.put_so_far notes.new) result said) }
     ensures faults { IfErr result (IsOfFile bytes.now (W.failed out.new || N.failed notes.new)) }
-    ensures room { IsErrOf result RunFault.Memory → (length bytes.now ≤ longest_file) × IsUtf8 bytes.now }
+    ensures room { IsErrOf result RunFault.Memory → (length bytes.now ≤ LONGEST_FILE) × IsUtf8 bytes.now }
     ensures untouched { IfErr result (λ e. is_refusal e ≡ true → (out.new ≡ out.old) × (notes.new ≡ notes.old)) }
 {
     let file = read_file(alloc, bytes)?;

@@ -2,7 +2,7 @@
 use Rattle.std.specs.Prelude.{◌≡◌, ◌≢◌, ◌||◌, ◌+◌, ℕ, Bool, true, false, List, [], Option, Result, Err, IsErrOf}
 use Rattle.clap.specs.Words.{Text, fault_of}
 use Rattle.iso_lexer.specs.Devices.{IsFront}
-use Rattle.iso_lexer.specs.SpecText.{longest_file}
+use Rattle.iso_lexer.specs.declared.limits.TheConstants.{LONGEST_FILE}
 use Rattle.spec_files.specs.declared.fault.RunFault.{RunFault}
 use Rattle.spec_files.specs.declared.fault.RunFault.TheVariants as faults
 use Rattle.program_words.specs.declared.options.Options.{Options}
@@ -30,5 +30,5 @@ pub data IsServed (words : List Text) (left_old left_new : Option (List ℕ)) (i
   lacks : fault_of program words ≡ [] → out_new ≡ out_old → IsUnread left_old left_new in_failed typed err_failed err_old err_new status
       → IsServed words left_old left_new in_failed typed there out_failed out_old out_new err_failed err_old err_new status
   serves : (options : Options) → fault_of program words ≡ [] → GivesOptions words options → (hinted : Option (List ℕ)) → Hints typed err_old hinted
-      → (file : List ℕ) → IsFront (longest_file + 1) left_old left_new file → in_failed ≡ false → RunsFile options file there out_failed out_old out_new err_failed hinted err_new status
+      → (file : List ℕ) → IsFront (LONGEST_FILE + 1) left_old left_new file → in_failed ≡ false → RunsFile options file there out_failed out_old out_new err_failed hinted err_new status
       → IsServed words left_old left_new in_failed typed there out_failed out_old out_new err_failed err_old err_new status

@@ -2,7 +2,7 @@
 use Rattle.std.specs.Prelude.{◌≡◌, ◌+◌, ℕ, Bool, true, false, List, [], ◌++◌, Option, Result, Ok, Err, codes}
 use Rattle.std.specs.Io.KnownBytes.{Appends}
 use Rattle.iso_lexer.specs.Devices.{PutsFront, TakesFew}
-use Rattle.iso_lexer.specs.SpecText.{longest_file}
+use Rattle.iso_lexer.specs.declared.limits.TheConstants.{LONGEST_FILE}
 use Rattle.spec_files.specs.FaultText.{fault_line}
 use Rattle.spec_files.specs.Runs.{status_of}
 use Rattle.spec_files.specs.declared.fault.RunFault.{RunFault}
@@ -32,7 +32,7 @@ FailsFirst in_failed _ = ⊥
 pub data IsUnread (left_old left_new : Option (List ℕ)) (in_failed typed : Bool) (err_failed : Bool) (err_old err_new : Option (List ℕ)) (status : ℕ) : Type 0 where
   unhinted : typed ≡ true → err_failed ≡ true → PutsFront err_old err_new hint → left_new ≡ left_old → status ≡ 3 → IsUnread left_old left_new in_failed typed err_failed err_old err_new status
   faulted : (hinted : Option (List ℕ)) → Hints typed err_old hinted → (e : RunFault) → FailsFirst in_failed e → Took err_failed hinted err_new (fault_line e)
-      → TakesFew (longest_file + 1) left_old left_new → status ≡ status_of e → IsUnread left_old left_new in_failed typed err_failed err_old err_new status
+      → TakesFew (LONGEST_FILE + 1) left_old left_new → status ≡ status_of e → IsUnread left_old left_new in_failed typed err_failed err_old err_new status
 
 -- ---- behind the run
 

@@ -2,7 +2,7 @@
 
 ghost use Rattle.std.specs.Prelude.{◌≡◌, ◌+◌, IfErr, IfOk, OnErr, OnOk, false, true};
 ghost use Rattle.iso_lexer.specs.Devices.{IsFront, PutsFront};
-ghost use Rattle.iso_lexer.specs.SpecText.{longest_file};
+ghost use Rattle.iso_lexer.specs.declared.limits.TheConstants.{LONGEST_FILE};
 ghost use Rattle.program_words.specs.Terminal.{Hints, IsUnread, hint};
 
 use crate::program::told;
@@ -34,7 +34,7 @@ pub fn read_there<S: Source, N: Sink>(
     err: &mut N,
 ) -> Result<Vec<u8>, u8>
     ensures hints { OnOk result (Hints typed (N.put_so_far err.old) (N.put_so_far err.new)) }
-    ensures reads { IfOk result (λ file. IsFront (longest_file + 1) (S.left input.old) (S.left input.new) file.items) }
+    ensures reads { IfOk result (λ file. IsFront (LONGEST_FILE + 1) (S.left input.old) (S.left input.new) file.items) }
     ensures well { OnOk result (S.failed input.new ≡ false) }
     ensures unread { IfErr result (IsUnread (S.left input.old) (S.left input.new) (S.failed input.new) typed (N.failed err.new) (N.put_so_far err.old) (N.put_so_far err.new)) }
 {

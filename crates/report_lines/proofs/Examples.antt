@@ -16,7 +16,7 @@ use Rattle.report_lines.specs.declared.history.PlannedLaunch.{PlannedLaunch}
 use Rattle.spec_parser.specs.Trees.{EntryTree}
 use Rattle.session_machine.specs.declared.fault.StmtFault.TheVariants.{TooManyValues}
 use Rattle.report_lines.specs.History.{PermutationRun}
-use Rattle.report_lines.specs.Walk.{walked}
+use Rattle.report_lines.specs.Code.Walk.{walked}
 
 abbrev begins : ℕ → HistItem
 begins s = record { event = Launch s 0; reply = record { outcome = Launched; ended = false } }

@@ -7,8 +7,8 @@ use Rattle.session_machine.specs.declared.reply.HistItem.{HistItem}
 use Rattle.report_lines.specs.Starts.{segment_start, is_order, ends_in}
 use Rattle.report_lines.specs.Due.{orders}
 use Rattle.report_lines.specs.History.{PermutationRun, seen_before}
-use Rattle.report_lines.specs.Walk.{session_of_entry, block_ended}
-use Rattle.report_lines.specs.Places.{starts_from, last_end, IsTimed}
+use Rattle.report_lines.specs.Code.Walk.{session_of_entry, block_ended}
+use Rattle.report_lines.specs.Code.Places.{starts_from, last_end, IsTimed}
 use Rattle.report_lines.specs.Inner.Places.{IsFound}
 
 start_case : (b : Bool) (s t n : ℕ) → s ≤ n → t ≤ n → cond b s (t + 1) ≤ suc n

@@ -14,9 +14,9 @@ use Rattle.session_machine.specs.Machine.{is_failed}
 use Rattle.report_lines.specs.Due.{Launches, orders, segment, is_over, went_well, launch, due_setup, teardowns_so_far, due_entry, due}
 use Rattle.report_lines.specs.Inner.Due.{due_last}
 use Rattle.report_lines.specs.History.{PermutationRun, seen_before}
-use Rattle.report_lines.specs.Walk.{session_of_entry, block_ended, is_awaited, is_star, markers_of}
+use Rattle.report_lines.specs.Code.Walk.{session_of_entry, block_ended, is_awaited, is_star, markers_of}
 use Rattle.report_lines.specs.Report.{Report, active, moment_of}
-use Rattle.report_lines.specs.Walk.{can_report, try_again, polls_again, polled, all_polls, is_of, has_unreported, before_launch, after_launch, walked_from, walked}
+use Rattle.report_lines.specs.Code.Walk.{can_report, try_again, polls_again, polled, all_polls, is_of, has_unreported, before_launch, after_launch, walked_from, walked}
 use Rattle.report_lines.specs.Inner.Waiting.{is_reported}
 use Rattle.report_lines.specs.Fronts.{with_more}
 use Rattle.report_lines.specs.declared.history.PlannedLaunch.{PlannedLaunch}

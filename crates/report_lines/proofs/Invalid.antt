@@ -5,7 +5,7 @@ use Rattle.report_lines.specs.declared.history.Line.{Line}
 use Rattle.report_lines.specs.declared.history.RunState.TheVariants.{Due, Whole, Invalid}
 use Rattle.report_lines.specs.History.{PermutationRun}
 use Rattle.report_lines.specs.Report.{moment_of, active}
-use Rattle.report_lines.specs.Walk.{all_polls, has_unreported, before_launch, after_launch, walked_from, walked}
+use Rattle.report_lines.specs.Code.Walk.{all_polls, has_unreported, before_launch, after_launch, walked_from, walked}
 use Rattle.report_lines.specs.Tries.{Try, still_active, all_passes, has_active, tries_before, tries_after}
 use Rattle.report_lines.specs.Invalid.{launched_tries, tries_up_to, tries_to_the_end, IsStuck, IsInvalid}
 use Rattle.report_lines.proofs.Tried.{Follows, follows_polled, follows_busy, follows_way, follows_launch, follows_active}

@@ -14,11 +14,11 @@ use Rattle.session_machine.specs.Machine.{session_of}
 use Rattle.report_lines.specs.Starts.{is_order, ends_in}
 use Rattle.report_lines.specs.Due.{orders}
 use Rattle.report_lines.specs.History.{PermutationRun}
-use Rattle.report_lines.specs.Walk.{walked, walked_from, after_launch}
-use Rattle.report_lines.specs.SoFar.{LinesSoFar, IsAt, IsReportSoFar}
-use Rattle.report_lines.specs.Places.{starts_from, last_end, IsTimed, IsSeen}
+use Rattle.report_lines.specs.Code.Walk.{walked, walked_from, after_launch}
+use Rattle.report_lines.specs.Code.SoFar.{LinesSoFar, IsAt, IsReportSoFar}
+use Rattle.report_lines.specs.Code.Places.{starts_from, last_end, IsTimed, IsSeen}
 use Rattle.report_lines.specs.Inner.Places.{ended_behind, ends_after, starts_after}
-use Rattle.report_lines.specs.Progress.{Keeps, KeepsFront, IsSettled, first_items}
+use Rattle.report_lines.specs.Code.Progress.{Keeps, KeepsFront, IsSettled, first_items}
 use Rattle.report_lines.specs.Inner.Progress.{Lags, IsNoted}
 use Rattle.report_lines.specs.Fronts.{with_more}
 use Rattle.report_lines.proofs.Reports.{first_same, report_next, report_over, whole_due, invalid_due}

@@ -10,7 +10,7 @@ use Rattle.report_lines.specs.declared.lines_so_far.Chosen.{Chosen}
 use Rattle.report_lines.specs.declared.lines_so_far.Chosen.TheVariants.{Joined}
 use Rattle.report_lines.specs.History.{PermutationRun}
 use Rattle.report_lines.specs.Report.{active}
-use Rattle.report_lines.specs.Walk.{can_report, try_again}
+use Rattle.report_lines.specs.Code.Walk.{can_report, try_again}
 use Rattle.report_lines.specs.Inner.Waiting.{is_reported}
 use Rattle.report_lines.specs.Inner.Trying.{instances, pass, is_chosen, chosen_retry, retried_from}
 use Rattle.report_lines.proofs.Waits.{active_leave, reported_push}

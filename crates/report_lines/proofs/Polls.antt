@@ -7,7 +7,7 @@ use Rattle.report_lines.specs.declared.history.Line.TheVariants.{Completed}
 use Rattle.report_lines.specs.declared.history.Moment.{Moment}
 use Rattle.report_lines.specs.History.{PermutationRun}
 use Rattle.report_lines.specs.Report.{active}
-use Rattle.report_lines.specs.Walk.{can_report, try_again, polls_again, polled, all_polls, is_of}
+use Rattle.report_lines.specs.Code.Walk.{can_report, try_again, polls_again, polled, all_polls, is_of}
 use Rattle.report_lines.specs.Inner.Waiting.{is_reported}
 use Rattle.report_lines.specs.Inner.Trying.{instances, pass, own_retry}
 use Rattle.report_lines.proofs.Waits.{active_leave, reported_push, any_is}

@@ -8,7 +8,7 @@ use Rattle.report_lines.specs.declared.history.Line.{Line}
 use Rattle.report_lines.specs.declared.history.Line.TheVariants.{AtOnce, Waiting, Completed}
 use Rattle.report_lines.specs.History.{PermutationRun}
 use Rattle.report_lines.specs.Report.{reports}
-use Rattle.report_lines.specs.Walk.{walked}
+use Rattle.report_lines.specs.Code.Walk.{walked}
 use Rattle.report_lines.specs.Tries.{Try, is_untried, was_reported, is_met, says, said, tries, IsReportPoint}
 use Rattle.report_lines.proofs.Tried.{lines_are_said}
 

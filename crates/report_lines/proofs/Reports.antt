@@ -6,7 +6,7 @@ use Rattle.report_lines.specs.declared.history.RunState.{RunState}
 use Rattle.report_lines.specs.declared.history.RunState.TheVariants.{Due, Whole, Invalid}
 use Rattle.report_lines.specs.History.{PermutationRun}
 use Rattle.report_lines.specs.Report.{Report, moment_of, active}
-use Rattle.report_lines.specs.Walk.{walked, walked_from, before_launch, after_launch, all_polls, has_unreported}
+use Rattle.report_lines.specs.Code.Walk.{walked, walked_from, before_launch, after_launch, all_polls, has_unreported}
 
 -- where the entries come to an end
 pub report_end : (c : PermutationRun) (n e count : ℕ) (lines : List Line) → n ≤ e → walked_from c e (n - e) count lines ≡ (let all = all_polls c (moment_of c e e) lines in record { lines = all; state = if length (active all e) == 0 then Whole else Invalid })

@@ -13,8 +13,8 @@ use Rattle.report_lines.specs.declared.history.Moment.{Moment}
 use Rattle.report_lines.specs.declared.history.RunState.TheVariants.{Due, Whole, Invalid}
 use Rattle.report_lines.specs.History.{PermutationRun, entry_at, has_ended}
 use Rattle.report_lines.specs.Report.{Report, active, moment_of, holds, may_report, retry, poll, rivals, made_way, launched, report_from, report}
-use Rattle.report_lines.specs.Walk.{session_of_entry, markers_of, names, is_star, is_awaited, is_of, polls_again, polled, has_unreported}
-use Rattle.report_lines.specs.Walk as walk
+use Rattle.report_lines.specs.Code.Walk.{session_of_entry, markers_of, names, is_star, is_awaited, is_of, polls_again, polled, has_unreported}
+use Rattle.report_lines.specs.Code.Walk as walk
 use Rattle.report_lines.specs.Inner.Trying.{instances, is_marked, pass}
 use Rattle.report_lines.specs.Inner.Waiting.{is_reported}
 use Rattle.report_lines.proofs.Waits.{reported_push, same_filter, unmarked}

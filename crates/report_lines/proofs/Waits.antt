@@ -13,9 +13,9 @@ use Rattle.report_lines.specs.declared.history.Moment.{Moment}
 use Rattle.spec_parser.specs.Trees.{EntryTree}
 use Rattle.spec_parser.specs.declared.tree.Marker.{Marker}
 use Rattle.report_lines.specs.History.{PermutationRun}
-use Rattle.report_lines.specs.Walk.{names, is_awaited, markers_of}
+use Rattle.report_lines.specs.Code.Walk.{names, is_awaited, markers_of}
 use Rattle.report_lines.specs.Report.{reports, active}
-use Rattle.report_lines.specs.Walk.{polled, polls_again}
+use Rattle.report_lines.specs.Code.Walk.{polled, polls_again}
 use Rattle.report_lines.specs.Inner.Trying.{is_marked, instances, pass}
 use Rattle.report_lines.specs.Inner.Waiting.{is_reported, IsKept}
 use Rattle.report_lines.proofs.Rising.{instances_more}

@@ -12,7 +12,7 @@ use Rattle.report_lines.specs.declared.history.RunState.{RunState}
 use Rattle.report_lines.specs.declared.history.RunState.TheVariants.{Due, Whole, Invalid}
 use Rattle.report_lines.specs.Starts.{order_of, segment_start, ends_in}
 use Rattle.report_lines.specs.History.{PermutationRun}
-use Rattle.report_lines.specs.Walk.{walked}
+use Rattle.report_lines.specs.Code.Walk.{walked}
 
 -- the blocks of a permutation, each with its session: of the setups, of the entries, of the sessions' teardowns, of the main teardown; and how many sessions there are
 pub record Launches : Type 0 where

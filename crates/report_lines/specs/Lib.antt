@@ -1,13 +1,10 @@
 pub mod Starts
 pub mod History
 pub mod Report
-pub mod Walk
-pub mod Places
-pub mod SoFar
 pub mod Due
 pub mod Orders
 pub mod Tries
 pub mod Fronts
-pub mod Progress
 pub mod Invalid
+pub mod Code
 pub mod Inner

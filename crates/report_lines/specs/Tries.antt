@@ -6,9 +6,9 @@ use Rattle.report_lines.specs.declared.history.Line.{Line}
 use Rattle.report_lines.specs.declared.history.Line.TheVariants.{AtOnce, Waiting, Completed}
 use Rattle.report_lines.specs.declared.history.Moment.{Moment}
 use Rattle.report_lines.specs.History.{PermutationRun}
-use Rattle.report_lines.specs.Walk.{session_of_entry, block_ended, is_awaited, is_star, markers_of}
+use Rattle.report_lines.specs.Code.Walk.{session_of_entry, block_ended, is_awaited, is_star, markers_of}
 use Rattle.report_lines.specs.Report.{moment_of}
-use Rattle.report_lines.specs.Walk.{is_of}
+use Rattle.report_lines.specs.Code.Walk.{is_of}
 
 -- an instance is tried at a moment
 pub record Try : Type 0 where

@@ -3,7 +3,7 @@ ghost use Rattle.std.specs.Prelude.{◌≡◌, ◌==◌, not, length, map, slice
 ghost use Rattle.std.specs.List.{list_any};
 ghost use Rattle.std.specs.Option.{option_map_or};
 ghost use Rattle.spec_parser.specs.Trees.{EntryTree, entry_view};
-ghost use Rattle.report_lines.specs.Walk.{names, is_star};
+ghost use Rattle.report_lines.specs.Code.Walk.{names, is_star};
 ghost use Rattle.session_machine.specs.Machine.{session_of};
 ghost use Rattle.report_lines.specs.Starts.{is_order, ends_in};
 

@@ -5,7 +5,7 @@ ghost use Rattle.report_lines.specs.declared.history.Line.{Line};
 ghost use Rattle.report_lines.specs.declared.history.Moment.{Moment};
 ghost use Rattle.report_lines.specs.History.{PermutationRun};
 ghost use Rattle.report_lines.specs.Report.{reports, report};
-ghost use Rattle.report_lines.specs.Walk.{polled, all_polls};
+ghost use Rattle.report_lines.specs.Code.Walk.{polled, all_polls};
 ghost use Rattle.report_lines.specs.Tries.{tries, said, IsReportPoint};
 ghost use Rattle.session_machine.specs.declared.reply.HistItem.{HistItem};
 ghost use Rattle.report_lines.specs.Starts.{is_order};

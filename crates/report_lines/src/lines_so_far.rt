@@ -2,15 +2,15 @@
 ghost use Rattle.std.specs.Prelude.{◌≡◌, ◌≢◌, ◌+◌, ◌-◌, ◌<◌, ◌≤◌, ◌^◌, ◌==◌, ◌&&◌, ℕ, not, nat_lt, [], ◌∷◌, ◌++◌, length, slice_get, vec_len, vec_capacity};
 ghost use Rattle.std.specs.Prelude.{OnOk, OnErr, IfOk, OnSome, Some, None, true, if◌then◌else◌};
 ghost use Rattle.std.specs.List.{list_any, filter, fold};
-ghost use Rattle.report_lines.specs.SoFar.{LinesSoFar, IsAt, IsReportSoFar};
+ghost use Rattle.report_lines.specs.Code.SoFar.{LinesSoFar, IsAt, IsReportSoFar};
 ghost use Rattle.report_lines.specs.Inner.Waiting.{IsKept};
 ghost use Rattle.report_lines.specs.Due.{orders};
 ghost use Rattle.report_lines.specs.History.{seen_before};
-ghost use Rattle.report_lines.specs.Walk.{session_of_entry, is_awaited, block_ended};
+ghost use Rattle.report_lines.specs.Code.Walk.{session_of_entry, is_awaited, block_ended};
 ghost use Rattle.report_lines.specs.Inner.Trying.{is_marked, instances, first_try, pass, is_chosen, chosen_retry, retried_from};
 ghost use Rattle.report_lines.specs.Report.{active};
-ghost use Rattle.report_lines.specs.Walk.{can_report, try_again, polls_again, polled, all_polls, has_unreported, is_of};
-ghost use Rattle.report_lines.specs.Walk.{before_launch, after_launch, walked, walked_from};
+ghost use Rattle.report_lines.specs.Code.Walk.{can_report, try_again, polls_again, polled, all_polls, has_unreported, is_of};
+ghost use Rattle.report_lines.specs.Code.Walk.{before_launch, after_launch, walked, walked_from};
 
 use crate::history::{Line, Moment, RunState};
 use crate::run_so_far::RunSoFar;
@@ -26,7 +26,7 @@ pub struct LinesSoFar {
 }
 
 impl Model for LinesSoFar {
-    ghost use Rattle.report_lines.specs.SoFar.{LinesSoFar};
+    ghost use Rattle.report_lines.specs.Code.SoFar.{LinesSoFar};
     ghost use Rattle.report_lines.specs.Inner.Waiting.{IsKept};
 
     ghost Value = { LinesSoFar };

@@ -34,7 +34,7 @@ impl<'a> Model for PermutationRun<'a> {
 
 impl<'a> PermutationRun<'a> {
     ghost use Rattle.report_lines.specs.History.{PermutationRun, seen_before};
-    ghost use Rattle.report_lines.specs.Walk.{session_of_entry};
+    ghost use Rattle.report_lines.specs.Code.Walk.{session_of_entry};
 
     /// These entries with a history, in which so many segments come before the first entry's. Fails only where memory is refused.
     pub fn new(

@@ -4,7 +4,7 @@ ghost use Rattle.std.specs.Option.{option_map_or};
 ghost use Rattle.spec_parser.specs.Trees.{entry_view};
 ghost use Rattle.report_lines.specs.Due.{is_over, went_well, orders, launch, due_setup, teardowns_so_far, due_entry, due};
 ghost use Rattle.report_lines.specs.Inner.Due.{due_last};
-ghost use Rattle.report_lines.specs.Progress.{KeepsFront, IsSettled};
+ghost use Rattle.report_lines.specs.Code.Progress.{KeepsFront, IsSettled};
 
 use crate::history::{PlannedLaunch, RunState, TeardownsSoFar};
 use crate::progress::PlanProgress;

@@ -3,9 +3,9 @@ ghost use Rattle.std.specs.Prelude.{◌≡◌, ◌+◌, ◌-◌, ◌<◌, ◌≤
 ghost use Rattle.report_lines.specs.Starts.{is_order};
 ghost use Rattle.report_lines.specs.Due.{orders};
 ghost use Rattle.report_lines.specs.Report.{report};
-ghost use Rattle.report_lines.specs.Places.{starts_from};
+ghost use Rattle.report_lines.specs.Code.Places.{starts_from};
 ghost use Rattle.report_lines.specs.Inner.Places.{starts_after, ended_behind, ends_after, IsZeros};
-ghost use Rattle.report_lines.specs.Progress.{Keeps, KeepsFront, IsSettled, permutation_run};
+ghost use Rattle.report_lines.specs.Code.Progress.{Keeps, KeepsFront, IsSettled, permutation_run};
 ghost use Rattle.report_lines.specs.Inner.Progress.{Lags, IsNext, IsNoted};
 
 use crate::entries::{is_order, session_of};

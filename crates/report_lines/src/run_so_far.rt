@@ -3,7 +3,7 @@ ghost use Rattle.std.specs.Prelude.{◌≡◌, ◌+◌, ◌<◌, ◌≤◌, ◌^
 ghost use Rattle.std.specs.List.{list_any};
 ghost use Rattle.spec_parser.specs.Trees.{entry_view};
 ghost use Rattle.report_lines.specs.Due.{orders};
-ghost use Rattle.report_lines.specs.Places.{IsSeen};
+ghost use Rattle.report_lines.specs.Code.Places.{IsSeen};
 
 use crate::entries;
 use crate::history::Moment;
@@ -29,7 +29,7 @@ impl<'a> Model for RunSoFar<'a> {
 
     ghost Value = { PermutationRun };
 
-    ghost use Rattle.report_lines.specs.Places.{IsTimed};
+    ghost use Rattle.report_lines.specs.Code.Places.{IsTimed};
 
     ghost view = { λ c. record { entries = map entry_view c.steps.now; items = c.segments; setups = c.setups } };
 
@@ -40,10 +40,10 @@ impl<'a> RunSoFar<'a> {
     ghost use Rattle.std.specs.List.{list_any};
     ghost use Rattle.report_lines.specs.Report.{moment_of};
     ghost use Rattle.report_lines.specs.History.{seen_before};
-    ghost use Rattle.report_lines.specs.Walk.{block_ended, is_awaited, is_star, markers_of, session_of_entry};
+    ghost use Rattle.report_lines.specs.Code.Walk.{block_ended, is_awaited, is_star, markers_of, session_of_entry};
     ghost use Rattle.report_lines.specs.Inner.Trying.{is_marked};
     ghost use Rattle.report_lines.specs.Due.{orders};
-    ghost use Rattle.report_lines.specs.Places.{IsSeen};
+    ghost use Rattle.report_lines.specs.Code.Places.{IsSeen};
 
     /// These entries with a history, whose orders stand at these places, and in which the last blocks end behind those.
     pub(crate) fn new(

@@ -4,7 +4,7 @@ ghost use Rattle.std.specs.List.{list_any};
 ghost use Rattle.report_lines.specs.Starts.{segment_start, ends_in};
 ghost use Rattle.session_machine.specs.Machine.{is_failed};
 ghost use Rattle.report_lines.specs.Due.{segment, is_over, went_well, orders};
-ghost use Rattle.report_lines.specs.Places.{starts_from};
+ghost use Rattle.report_lines.specs.Code.Places.{starts_from};
 
 use crate::entries::{self, is_order};
 use session_machine::{HistItem, Outcome};
@@ -34,7 +34,7 @@ impl<'a> Model for Segments<'a> {
 impl<'a> Segments<'a> {
     ghost use Rattle.report_lines.specs.Starts.{segment_start};
     ghost use Rattle.report_lines.specs.Due.{segment, is_over, went_well, orders};
-    ghost use Rattle.report_lines.specs.Places.{starts_from};
+    ghost use Rattle.report_lines.specs.Code.Places.{starts_from};
 
     /// A history whose orders stand at these places.
     pub(crate) fn new(items: &'a [HistItem<'a>], starts: &'a [usize]) -> Segments<'a>

@@ -9,10 +9,10 @@ use Rattle.report_lines.specs.Due.{segment, is_over, went_well, orders}
 use Rattle.report_text.specs.Replies.{rows_text, last_outcome}
 use Rattle.report_text.specs.Steps.{starting_text}
 use Rattle.report_text.specs.Said.{Said, only_ends, says, ◌>>◌}
-use Rattle.report_text.specs.Turns.{in_turn}
-use Rattle.report_text.specs.Turns.{setup_numbers, setup_ending, setup_turn}
-use Rattle.report_text.specs.Turns.{teardown_numbers, teardown_turn}
-use Rattle.report_text.specs.Turns.{permutation_in_turn}
+use Rattle.report_text.specs.Code.Turns.{in_turn}
+use Rattle.report_text.specs.Code.Turns.{setup_numbers, setup_ending, setup_turn}
+use Rattle.report_text.specs.Code.Turns.{teardown_numbers, teardown_turn}
+use Rattle.report_text.specs.Code.Turns.{permutation_in_turn}
 use Rattle.report_text.specs.Inner.Teardowns.{teardowns_say}
 use Rattle.report_text.specs.Inner.Permutation.{setups_say, entries_say, all_says}
 use Rattle.report_text.proofs.InTurn.{none_there}

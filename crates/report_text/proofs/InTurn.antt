@@ -5,8 +5,8 @@ use Rattle.session_machine.specs.declared.reply.HistItem.{HistItem}
 use Rattle.spec_parser.specs.Trees.{SessionTree, SpecTree}
 use Rattle.report_lines.specs.Due.{is_over}
 use Rattle.report_text.specs.Said.{Said, whole, says, ◌>>◌}
-use Rattle.report_text.specs.Turns.{session_numbers}
-use Rattle.report_text.specs.Turns.{teardown_numbers}
+use Rattle.report_text.specs.Code.Turns.{session_numbers}
+use Rattle.report_text.specs.Code.Turns.{teardown_numbers}
 use Rattle.report_text.specs.Inner.Teardowns.{teardown_said, teardowns_say, TeardownsSaid, behind, teardown_first, teardowns_from, teardowns_in_turn}
 use Rattle.report_text.proofs.Saying.{after_whole}
 

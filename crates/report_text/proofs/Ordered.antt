@@ -24,7 +24,7 @@ use Rattle.report_text.specs.Said.{Ending, whole, invalid, setup_failed, setup_w
 use Rattle.report_text.specs.Setups.{setup_says}
 use Rattle.report_text.specs.Teardowns.{teardown_says}
 use Rattle.report_text.specs.Permutation.{permutation_says}
-use Rattle.report_text.specs.Turns.{in_turn, setup_numbers, teardown_numbers, setup_ending, setup_turn, teardown_turn, state_says, permutation_in_turn}
+use Rattle.report_text.specs.Code.Turns.{in_turn, setup_numbers, teardown_numbers, setup_ending, setup_turn, teardown_turn, state_says, permutation_in_turn}
 use Rattle.report_text.proofs.Saying.{permutation_run}
 
 -- ---- one thing after another

@@ -9,9 +9,9 @@ use Rattle.report_lines.specs.Report.{report}
 use Rattle.report_lines.specs.declared.history.RunState.{RunState}
 use Rattle.report_lines.specs.declared.history.RunState.TheVariants.{Due, Whole, Invalid}
 use Rattle.report_text.specs.Said.{Ending, whole, invalid, setup_failed, setup_waits, too_many, Said, says, ◌>>◌}
-use Rattle.report_text.specs.Turns.{is_whole}
+use Rattle.report_text.specs.Code.Turns.{is_whole}
 use Rattle.report_text.specs.Inner.Permutation.{setups_say, entries_say}
-use Rattle.report_text.specs.Turns.{state_says}
+use Rattle.report_text.specs.Code.Turns.{state_says}
 use Rattle.report_text.specs.Answers.{ending_of}
 use Rattle.report_text.specs.declared.fault.Ending.{Ending as Found}
 use Rattle.report_text.specs.declared.fault.Ending.TheVariants as found

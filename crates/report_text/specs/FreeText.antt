@@ -15,8 +15,8 @@ use Rattle.report_text.specs.declared.standing.Standing.{Standing}
 use Rattle.report_text.specs.Replies.{outcome_text}
 use Rattle.report_text.specs.LineText.{step_name, step_sql}
 use Rattle.report_text.specs.Said.{Said}
-use Rattle.report_text.specs.Turns.{in_turn}
-use Rattle.report_text.specs.Turns.{setup_numbers, setup_turn}
+use Rattle.report_text.specs.Code.Turns.{in_turn}
+use Rattle.report_text.specs.Code.Turns.{setup_numbers, setup_turn}
 use Rattle.report_text.specs.Teardowns.{failure_note}
 
 -- ---- where a session stands: its block, and which of that block's statements comes next, from 1

@@ -6,7 +6,7 @@ pub mod Said
 pub mod Setups
 pub mod Teardowns
 pub mod Permutation
-pub mod Turns
 pub mod Answers
 pub mod FreeText
+pub mod Code
 pub mod Inner

@@ -5,7 +5,7 @@ ghost use Rattle.std.specs.Io.KnownBytes.{Appends};
 ghost use Rattle.iso_lexer.specs.Devices.{page_text};
 ghost use Rattle.spec_parser.specs.Trees.{session_view, spec_view};
 ghost use Rattle.report_lines.specs.Due.{orders};
-ghost use Rattle.report_text.specs.Turns.{setup_numbers};
+ghost use Rattle.report_text.specs.Code.Turns.{setup_numbers};
 ghost use Rattle.report_text.specs.Inner.Permutation.{setups_say};
 ghost use Rattle.report_text.specs.FreeText.{item_text, item_note, each_says, free_says};
 ghost use Rattle.report_text.specs.Answers.{ending_of, EndsAs, Puts, TellsFailure};

@@ -2,7 +2,7 @@
 
 ghost use Rattle.std.specs.Prelude.{◌≡◌, ◌≢◌, ◌++◌, ◌∷◌, [], map, OnOk, OnErr, IfOk, if◌then◌else◌};
 ghost use Rattle.spec_parser.specs.Trees.{session_view, spec_view};
-ghost use Rattle.report_text.specs.Turns.{session_numbers, setup_numbers};
+ghost use Rattle.report_text.specs.Code.Turns.{session_numbers, setup_numbers};
 
 use spec_parser::{SessionPart, Spec};
 use std::alloc::{AllocError, Global};

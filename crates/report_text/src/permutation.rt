@@ -7,9 +7,9 @@ ghost use Rattle.spec_parser.specs.Trees.{entry_view, spec_view};
 ghost use Rattle.report_lines.specs.Due.{orders};
 ghost use Rattle.report_text.specs.Steps.{starting_text};
 ghost use Rattle.report_text.specs.LineText.{line_text};
-ghost use Rattle.report_text.specs.Turns.{setup_numbers};
+ghost use Rattle.report_text.specs.Code.Turns.{setup_numbers};
 ghost use Rattle.report_text.specs.Permutation.{permutation_says};
-ghost use Rattle.report_text.specs.Turns.{state_says};
+ghost use Rattle.report_text.specs.Code.Turns.{state_says};
 ghost use Rattle.report_text.specs.Inner.Permutation.{setups_say, entries_say, rest_says, all_says};
 ghost use Rattle.report_text.specs.Answers.{ending_of, EndsAs, IsNotMemory, Puts, TellsFailure};
 

@@ -7,7 +7,7 @@ ghost use Rattle.session_machine.specs.Machine.{is_failed};
 ghost use Rattle.report_text.specs.FaultText.{fault_text};
 ghost use Rattle.report_lines.specs.Due.{orders};
 ghost use Rattle.report_text.specs.Replies.{last_outcome};
-ghost use Rattle.report_text.specs.Turns.{setup_ending};
+ghost use Rattle.report_text.specs.Code.Turns.{setup_ending};
 ghost use Rattle.report_text.specs.Inner.Permutation.{setups_say};
 ghost use Rattle.report_text.specs.Answers.{ending_of};
 

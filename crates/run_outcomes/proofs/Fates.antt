@@ -3,7 +3,7 @@ use Rattle.std.proofs.Common.{◌≡◌, ◌+◌, ◌<◌, ◌^◌, ◌∷◌, �
 use Rattle.session_machine.specs.Machine.{Blocks}
 use Rattle.spec_parser.specs.Trees.{EntryTree, SpecTree}
 use Rattle.outcome_counts.specs.Counts.{Fate, Counts, IsCounted, HasRoom}
-use Rattle.outcome_counts.specs.Adding.{IsOneMore}
+use Rattle.outcome_counts.specs.Code.Adding.{IsOneMore}
 use Rattle.outcome_counts.proofs.Counting.{has_room, none_counted, stays_counted}
 use Rattle.run_outcomes.specs.Counting.{AllComeTo, ComesTo}
 

@@ -8,7 +8,7 @@ use Rattle.report_lines.specs.Starts.{segment_start}
 use Rattle.report_lines.specs.Due.{orders}
 use Rattle.report_lines.specs.History.{PermutationRun}
 use Rattle.report_lines.specs.Report.{report}
-use Rattle.report_text.specs.Turns.{setup_numbers}
+use Rattle.report_text.specs.Code.Turns.{setup_numbers}
 use Rattle.run_outcomes.specs.declared.ending.Ending.{Ending}
 use Rattle.run_outcomes.specs.declared.ending.Ending.TheVariants.{Whole, Blocked, Waits, NotSetUp}
 

@@ -5,7 +5,7 @@ ghost use Rattle.sql_blocks.specs.Blocks.{blocks_of};
 ghost use Rattle.spec_parser.specs.Trees.{entry_view, spec_view};
 ghost use Rattle.spec_parser.specs.Stands.{Stands};
 ghost use Rattle.permutation_plans.specs.Regular.{IsRegular};
-ghost use Rattle.outcome_counts.specs.Adding.{IsOneMore};
+ghost use Rattle.outcome_counts.specs.Code.Adding.{IsOneMore};
 ghost use Rattle.outcome_counts.specs.Counts.{Fate, HasRoom, counts_view};
 ghost use Rattle.run_outcomes.specs.Counting.{AllCounted, ComesTo, IsFate};
 

@@ -1,6 +1,7 @@
 //! The engine: the machine over a store, with its history.
 ghost use Rattle.std.specs.Prelude.{◌≡◌, ◌≢◌, ◌↔◌, IsTrue, ◌+◌, ◌<◌, ◌≤◌, ◌^◌, ℕ, List, [], ◌∷◌, ◌++◌, Some, None, IfOk, IfErr, IfSome, OnOk, OnErr, IsErrOf, Result, Ok, Err, length, option_map, slice_get};
 ghost use Rattle.std.specs.Global.{Vec as VecFacts};
+ghost use Rattle.iso_lexer.specs.declared.limits.TheConstants.{MOST_SESSIONS};
 ghost use Rattle.sql_blocks.specs.Blocks.{blocks_of};
 ghost use Rattle.sql_values.specs.declared.value.Value.{Value as SqlValue};
 ghost use Rattle.row_versions.specs.Log.{empty_content};
@@ -95,7 +96,7 @@ impl<'a, 't, V: Versions> EngineState<'a, 't, V> {
         mode: Mode,
         store: V,
     ) -> Result<Self, AllocError>
-        requires few { count ≤ 64 }
+        requires few { count ≤ MOST_SESSIONS }
         requires empty { V.content store ≡ empty_content }
         ensures { IfOk result (λ e. e ≡ opened (blocks_of blocks.now) count mode) }
     {

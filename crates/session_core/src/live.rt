@@ -1,6 +1,7 @@
 //! The machine over a store.
 ghost use Rattle.std.specs.Prelude.{◌≡◌, ◌+◌, ◌<◌, ◌≤◌, ◌^◌, List, IfOk, IfErr, OnErr, Ok, Err, Some, option_map, length, slice_get};
 ghost use Rattle.std.specs.Global.{Vec as VecFacts};
+ghost use Rattle.iso_lexer.specs.declared.limits.TheConstants.{MOST_SESSIONS};
 ghost use Rattle.sql_blocks.specs.Blocks.{blocks_of};
 ghost use Rattle.sql_values.specs.declared.value.Value.{Value as SqlValue};
 ghost use Rattle.row_versions.specs.Log.{empty_content};
@@ -37,7 +38,7 @@ impl<'a, 't, V: Versions> Model for Live<'a, 't, V> {
 impl<'a, 't, V: Versions> Live<'a, 't, V> {
     /// A machine in which nothing has happened.
     pub fn new(alloc: Global, count: u32, store: V) -> Result<Self, AllocError>
-        requires few { count ≤ 64 }
+        requires few { count ≤ MOST_SESSIONS }
         requires empty { V.content store ≡ empty_content }
         ensures { IfOk result (λ m. m ≡ opening count) }
     {

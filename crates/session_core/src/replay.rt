@@ -1,5 +1,6 @@
 //! Whether a history is one of the machine's.
 ghost use Rattle.std.specs.Prelude.{◌≡◌, ◌↔◌, ◌+◌, ◌<◌, ◌≤◌, ◌^◌, ℕ, IsTrue, IfOk, true, false, length};
+ghost use Rattle.iso_lexer.specs.declared.limits.TheConstants.{MOST_SESSIONS};
 ghost use Rattle.sql_blocks.specs.Blocks.{blocks_of};
 ghost use Rattle.session_machine.specs.Sound.{IsSoundMachine};
 ghost use Rattle.session_machine.specs.Machine.{Machine, opening, Run};
@@ -40,7 +41,7 @@ pub fn replays<'a, 't>(
     mode: Mode,
     history: &[HistItem<'_>],
 ) -> Result<bool, AllocError>
-    requires few { count ≤ 64 }
+    requires few { count ≤ MOST_SESSIONS }
     ensures { IfOk result (λ legal. IsTrue legal ↔ IsLegal (blocks_of blocks.now) count mode history.now) }
 {
     stays_sound();

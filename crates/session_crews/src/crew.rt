@@ -4,14 +4,12 @@ ghost use Rattle.session_machine.specs.Machine.{session_of};
 
 use crate::driven::Drives;
 use crate::shared::{Hand, Shared};
+use iso_lexer::MOST_SESSIONS;
 use session_machine::{Engine, EngineFault, Event};
 use session_seats::{
     Board, Gate, MOST_RUNS, Orderings, SeatAt, ThreadFault, admitted, bit_of, number_of, tell,
 };
 use std::sync::{Mutex, Wait};
-
-/// How many sessions a crew has, at most, with the control session.
-const MOST_SESSIONS: usize = 65;
 
 /// What a session's thread has: the session's seat in each run.
 #[derive(Drop)]
@@ -148,7 +146,7 @@ fn pass<E: Engine, S: SeatAt<E>, O: Orderings, D: Drives<E>, G: Gate, R: Wait>(
     looks: u64,
 ) -> u64 {
     let mut events = [None; MOST_RUNS];
-    let mut hands = [0u64; MOST_SESSIONS];
+    let mut hands = [0u64; MOST_SESSIONS + 1];
     ask_for_each(rt, runs, board, gate, session, looks, &mut events);
     do_each(rt, runs, board, seats, &mut events, &mut hands);
     board.hand_on(session, &hands);

@@ -1,5 +1,6 @@
 //! Runs that a crew serves side by side, in each of which a driver says what is given to whom.
 ghost use Rattle.std.specs.Prelude.{◌≡◌, ◌≤◌, ◌⊎◌, ◌&&◌, [], true, All, None, Some, length, IfOk, IfErr, IfSome, if◌then◌else◌};
+ghost use Rattle.iso_lexer.specs.declared.limits.TheConstants.{MOST_SESSIONS};
 ghost use Rattle.session_machine.specs.Engine.{is_quiet_in};
 ghost use Rattle.session_seats.specs.Orders.{IsDriven};
 
@@ -239,7 +240,7 @@ pub fn run_crew<
     columns: Vec<Vec<S>>,
     gate: &G,
 ) -> Result<(Vec<Ended<E>>, Vec<Vec<S>>), ThreadFault>
-    requires few { sessions ≤ 64 }
+    requires few { sessions ≤ MOST_SESSIONS }
     requires new { All (λ run. (E.engine run.engine).history ≡ []) opened.items }
     requires orders { All (λ run. D.order_after run.driver ≡ O.orders run.place) opened.items }
     requires follows { All (λ run. D.follows run.driver []) opened.items }

@@ -1,5 +1,6 @@
 //! A run in which each session's thread runs the session's script, with no order between sessions.
 ghost use Rattle.std.specs.Prelude.{◌≡◌, ◌≤◌, ◌⊎◌, [], true, false, None, is_some, length, vec_len, IfErr, IfOk};
+ghost use Rattle.iso_lexer.specs.declared.limits.TheConstants.{MOST_SESSIONS};
 ghost use Rattle.session_seats.specs.Acts.{IsRunOf};
 ghost use Rattle.session_seats.specs.Free.{scripts_in};
 ghost use Rattle.session_seats.specs.FreeRuns.{FitsPlan, IsCutShort};
@@ -110,7 +111,7 @@ fn run_after<E: Engine, S: SeatAt<E>, R: Wait>(
 
 /// Each session at the beginning of its script.
 fn at_start(alloc: Global, scripts: &[Vec<u32>]) -> Result<Vec<Progress<'_>>, ThreadFault>
-    requires { length scripts.now ≤ 64 }
+    requires { length scripts.now ≤ MOST_SESSIONS }
     ensures ok { IfOk result (λ progress. AreAtStart (scripts_in scripts.now) progress.items) }
     ensures err { IfErr result (λ fault. fault ≡ ThreadFault.Memory) }
 {
@@ -192,7 +193,7 @@ fn run_scripting<
     G: Gate,
     R: Threads + Wait + Sync,
 >(rt: &R, alloc: Global, engine: E, seats: Vec<S>, scripts: &[Vec<u32>], gate: &G) -> Joined<E, S>
-    requires few { length scripts.now ≤ 64 }
+    requires few { length scripts.now ≤ MOST_SESSIONS }
     requires start { E.engine engine ≡ P.start }
     requires unspent { is_some (E.engine engine).machine ≡ true }
     requires scripts { scripts_in scripts.now ≡ P.scripts }
@@ -255,7 +256,7 @@ fn run_sessions<E: Engine + Send, S: SeatAt<E> + Send, G: Gate, R: Threads + Wai
     scripts: &[Vec<u32>],
     gate: &G,
 ) -> Joined<E, S>
-    requires few { length scripts.now ≤ 64 }
+    requires few { length scripts.now ≤ MOST_SESSIONS }
     requires unspent { is_some (E.engine engine).machine ≡ true }
     ensures of { IsRunOf (E.engine engine) (E.engine result.engine) }
     ensures done { result.met ≡ None → result.late ≡ None → AllDone (E.engine engine) (scripts_in scripts.now) (E.engine result.engine) }
@@ -307,7 +308,7 @@ pub fn run_scripts<E: Engine + Send, S: SeatAt<E> + Send, G: Gate, R: Threads + 
     plan: &FreePlan,
     gate: &G,
 ) -> Joined<E, S>
-    requires few { vec_len plan.now.scripts ≤ 64 }
+    requires few { vec_len plan.now.scripts ≤ MOST_SESSIONS }
     requires new { (E.engine engine).history ≡ [] }
     requires unspent { is_some (E.engine engine).machine ≡ true }
     ensures of { IsRunOf (E.engine engine) (E.engine result.engine) }

@@ -3,6 +3,7 @@ use Rattle.std.proofs.Common.{◌≡◌, ℕ, zero, suc, ◌≤◌, ◌+◌, Boo
 use Rattle.std.specs.Prelude.{Option, Some, None, is_some, unwrap_or, slice_get, Ok, if◌then◌else◌, not, ◌&&◌}
 use Rattle.std.proofs.lemmas.Bool.{cases_eq}
 use Rattle.std.proofs.lemmas.Option.{slice_get_within, same_Some}
+use Rattle.iso_lexer.specs.declared.limits.TheConstants.{MOST_SESSIONS}
 use Rattle.sql_trees.specs.declared.stmt.Level.{Level}
 use Rattle.sql_trees.specs.Statements.{StmtTree, Begin, Commit, Rollback, SetTransaction, SetDeadlockTimeout}
 use Rattle.row_versions.specs.declared.write.Write.{Write}
@@ -216,5 +217,5 @@ orderly_opening blocks count =
       turning = λ i s place stmt at due ok. ap (λ (x : Session). x.statement) (sym (rests (count + 1) i s at));
     }
 
-pub orderly_run : (blocks : Blocks) (count : ℕ) (mode : Mode) (items : List HistItem) (m : Machine) → count ≤ 64 → Run blocks mode (opening count) items m → SoundAndOrderly blocks m
+pub orderly_run : (blocks : Blocks) (count : ℕ) (mode : Mode) (items : List HistItem) (m : Machine) → count ≤ MOST_SESSIONS → Run blocks mode (opening count) items m → SoundAndOrderly blocks m
 orderly_run blocks count mode items m few run = orderly_on blocks mode (opening count) items m (sound_opening count few, orderly_opening blocks count) run

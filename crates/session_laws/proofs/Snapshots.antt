@@ -3,6 +3,7 @@ use Rattle.std.proofs.Common.{◌≡◌, ℕ, zero, suc, ◌≤◌, ◌<◌, ◌
 use Rattle.std.specs.Prelude.{Option, Some, None, unwrap_or, slice_get, Ok, if◌then◌else◌}
 use Rattle.std.proofs.lemmas.Bool.{cases_eq}
 use Rattle.std.proofs.lemmas.Option.{slice_get_within}
+use Rattle.iso_lexer.specs.declared.limits.TheConstants.{MOST_SESSIONS}
 use Rattle.sql_trees.specs.declared.stmt.Level.TheVariants.{ReadCommitted}
 use Rattle.sql_trees.specs.Statements.{StmtTree}
 use Rattle.row_versions.specs.declared.write.View.{View}
@@ -165,5 +166,5 @@ no_snapshot zero i = refl
 no_snapshot (suc n) zero = refl
 no_snapshot (suc n) (suc i) = no_snapshot n i
 
-pub sound_first : (count : ℕ) → count ≤ 64 → SoundAndPast (opening count)
+pub sound_first : (count : ℕ) → count ≤ MOST_SESSIONS → SoundAndPast (opening count)
 sound_first count few = (sound_opening count few, λ i. omega (arith, no_snapshot (count + 1) i))

@@ -4,6 +4,7 @@ use Rattle.std.specs.Prelude.{Option, Some, None, is_some, slice_get, Result, Ok
 use Rattle.std.proofs.lemmas.Bool.{cases_eq}
 use Rattle.std.proofs.lemmas.List.{length-replicate}
 use Rattle.std.proofs.lemmas.Option.{slice_get_within}
+use Rattle.iso_lexer.specs.declared.limits.TheConstants.{MOST_SESSIONS}
 use Rattle.sql_trees.specs.Statements.{StmtTree}
 use Rattle.row_versions.specs.declared.write.Write.{Write}
 use Rattle.row_versions.specs.declared.write.Fate.TheVariants.{RolledBack, Open as OpenFate}
@@ -303,7 +304,7 @@ no_statement (suc n) (suc i) = no_statement n i
 no_write : (place : ℕ) (w : Write) → slice_get [] place ≡ Some w → ⊥
 no_write place w h = cc
 
-pub sound_opening : (count : ℕ) → count ≤ 64 → IsSoundMachine (opening count)
+pub sound_opening : (count : ℕ) → count ≤ MOST_SESSIONS → IsSoundMachine (opening count)
 sound_opening count few =
     record {
       opened = λ i n h. absurd (none_some (sym (no_tx (count + 1) i) ∙ h));

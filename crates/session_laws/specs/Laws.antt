@@ -1,6 +1,7 @@
 -- What follows from the definitions, in the words of sessions and histories. Each law stands on the contract of a function of `laws`.
 use Rattle.std.specs.Prelude.{◌≡◌, ◌≢◌, ◌<◌, ◌≤◌, ◌||◌, ℕ, Bool, true, List, [], ◌∷◌, ◌++◌, map, Contains, Option, Some, None, is_none, option_and_then, slice_get, Ok}
 use denote.Enum.Bare.{sameb}
+use Rattle.iso_lexer.specs.declared.limits.TheConstants.{MOST_SESSIONS}
 use Rattle.sql_trees.specs.contracts.stmt.Level.{the_type as the_level}
 use Rattle.sql_trees.specs.declared.stmt.Level.TheVariants.{ReadCommitted, RepeatableRead}
 use Rattle.sql_trees.specs.Statements.{StmtTree, Commit, Selects, All}
@@ -49,7 +50,7 @@ FirstPartsAreLegal = (blocks : Blocks) (count : ℕ) (mode : Mode) (first rest :
 abbrev pub SnapshotsStay : Type 0
 SnapshotsStay = (blocks : Blocks) (count : ℕ) (mode : Mode) (items : List HistItem) (m : Machine) (item : HistItem) (after : Machine)
     (session : ℕ) (s : Session) (t : OpenTransaction) (commits : ℕ)
-    → count ≤ 64 → Run blocks mode (opening count) items m → Follows blocks mode m item after → session_of item.event ≢ session
+    → count ≤ MOST_SESSIONS → Run blocks mode (opening count) items m → Follows blocks mode m item after → session_of item.event ≢ session
     → slice_get m.sessions session ≡ Some s → s.transaction ≡ Open t → t.level ≡ RepeatableRead → t.snapshot ≡ Some commits
     → (table : ℕ) → rows_shown after.db.content (view_of after.db.content t) table ≡ rows_shown m.db.content (view_of m.db.content t) table
 
@@ -57,7 +58,7 @@ SnapshotsStay = (blocks : Blocks) (count : ℕ) (mode : Mode) (items : List Hist
 abbrev pub FailuresAreUnseen : Type 0
 FailuresAreUnseen = (blocks : Blocks) (count : ℕ) (mode : Mode) (items : List HistItem) (m : Machine) (item : HistItem) (after : Machine)
     (session : ℕ) (s : Session) (fault : StmtFault)
-    → count ≤ 64 → Run blocks mode (opening count) items m → Follows blocks mode m item after → item.reply.outcome ≡ Failed fault
+    → count ≤ MOST_SESSIONS → Run blocks mode (opening count) items m → Follows blocks mode m item after → item.reply.outcome ≡ Failed fault
     → session_of item.event ≢ session → slice_get m.sessions session ≡ Some s
     → (table : ℕ) → rows_shown after.db.content (view_now after.db.content s.transaction s.statement) table
     ≡ rows_shown m.db.content (view_now m.db.content s.transaction s.statement) table
@@ -82,14 +83,14 @@ sees_all_committed transaction = true
 abbrev pub CommitsCount : Type 0
 CommitsCount = (blocks : Blocks) (count : ℕ) (mode : Mode) (items : List HistItem) (m : Machine) (item : HistItem) (after : Machine)
     (session : ℕ) (s : Session) (t : OpenTransaction)
-    → count ≤ 64 → Run blocks mode (opening count) items m → slice_get m.sessions session ≡ Some s → s.transaction ≡ Open t → due_stmt blocks s ≡ Some Commit
+    → count ≤ MOST_SESSIONS → Run blocks mode (opening count) items m → slice_get m.sessions session ≡ Some s → s.transaction ≡ Open t → due_stmt blocks s ≡ Some Commit
     → item.event ≡ Step session → Follows blocks mode m item after → has_committed after.db.content t.tx ≡ true
 
 -- after a commit each query that begins in Read Committed, and each first query of a transaction in Repeatable Read, sees its rows
 abbrev pub CommitsAreSeen : Type 0
 CommitsAreSeen = (blocks : Blocks) (count : ℕ) (mode : Mode) (items : List HistItem) (m : Machine)
     (session : ℕ) (s : Session) (place : ℕ) (w : Write) (values : List Value)
-    → count ≤ 64 → Run blocks mode (opening count) items m → slice_get m.sessions session ≡ Some s → sees_all_committed s.transaction ≡ true
+    → count ≤ MOST_SESSIONS → Run blocks mode (opening count) items m → slice_get m.sessions session ≡ Some s → sees_all_committed s.transaction ≡ true
     → IsLastOf m.db.content place w values → has_committed m.db.content w.tx ≡ true
     → Contains (rows_shown m.db.content (view_now m.db.content s.transaction s.statement) w.table.0) values
 
@@ -97,7 +98,7 @@ CommitsAreSeen = (blocks : Blocks) (count : ℕ) (mode : Mode) (items : List His
 abbrev pub OwnWritesAreSeen : Type 0
 OwnWritesAreSeen = (blocks : Blocks) (count : ℕ) (mode : Mode) (items : List HistItem) (m : Machine)
     (session : ℕ) (s : Session) (t : OpenTransaction) (place : ℕ) (w : Write) (values : List Value)
-    → count ≤ 64 → Run blocks mode (opening count) items m → slice_get m.sessions session ≡ Some s → s.transaction ≡ Open t
+    → count ≤ MOST_SESSIONS → Run blocks mode (opening count) items m → slice_get m.sessions session ≡ Some s → s.transaction ≡ Open t
     → IsLastOf m.db.content place w values → w.tx ≡ t.tx
     → Contains (rows_shown m.db.content (view_now m.db.content s.transaction s.statement) w.table.0) values
 
@@ -115,6 +116,6 @@ shown_by outcome = None
 abbrev pub VisibleIsSelected : Type 0
 VisibleIsSelected = (blocks : Blocks) (count : ℕ) (mode : Mode) (items : List HistItem) (m : Machine) (item : HistItem) (after : Machine)
     (session : ℕ) (s : Session) (name : List ℕ) (rows : Option (List (List Value)))
-    → count ≤ 64 → Run blocks mode (opening count) items m → slice_get m.sessions session ≡ Some s → s.transaction ≢ Aborted
+    → count ≤ MOST_SESSIONS → Run blocks mode (opening count) items m → slice_get m.sessions session ≡ Some s → s.transaction ≢ Aborted
     → s.statement ≡ None → due_stmt blocks s ≡ Some (select_all name)
     → item.event ≡ Step session → Follows blocks mode m item after → visible m session name ≡ Ok rows → shown_by item.reply.outcome ≡ Some rows

@@ -1,5 +1,6 @@
 -- What holds of every state that the machine comes to.
 use Rattle.std.specs.Prelude.{◌≡◌, ℕ, ◌+◌, ◌≤◌, ◌<◌, ◌^◌, List, length, Option, Some, None, slice_get, Ok}
+use Rattle.iso_lexer.specs.declared.limits.TheConstants.{MOST_SESSIONS}
 use Rattle.sql_values.specs.declared.value.Value.{Value}
 use Rattle.row_versions.specs.declared.write.Write.{Write}
 use Rattle.row_versions.specs.declared.write.Fate.TheVariants.{Open as OpenFate}
@@ -62,6 +63,6 @@ IsSoundMachine m = IsSound m.db m.sessions m.events
 
 -- the state in which nothing has happened is sound, and each event leads from a sound state to one, in which there was one event more
 pub record StaysSound : Type 0 where
-  pub opens : (count : ℕ) → count ≤ 64 → IsSoundMachine (opening count)
+  pub opens : (count : ℕ) → count ≤ MOST_SESSIONS → IsSoundMachine (opening count)
   pub goes_on : (blocks : Blocks) (mode : Mode) (m : Machine) (event : Event) (n : Next) → IsSoundMachine m → next blocks mode m event ≡ Ok n
       → IsSoundMachine n.machine × (n.machine.events ≡ m.events + 1)

@@ -9,7 +9,7 @@ use Rattle.sql_values.specs.declared.value.Value.{Value}
 use Rattle.sql_values.specs.declared.fault.ValueFault.{ValueFault}
 use Rattle.sql_values.specs.declared.fault.ValueFault.TheVariants.{TypeMismatch}
 use Rattle.sql_values.specs.Sorting.{can_sort, key, keys_at}
-use Rattle.session_queries.specs.Fronts.{AnswersList}
+use Rattle.session_queries.specs.Code.Fronts.{AnswersList}
 use Rattle.query_results.specs.Ordering.{rows_at, sorted_places}
 use Rattle.query_results.specs.Queries.{by_keys}
 use Rattle.query_results.proofs.Insertion.{places_within}

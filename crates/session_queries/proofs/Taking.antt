@@ -14,7 +14,7 @@ use Rattle.query_results.specs.Ordering.{rows_at}
 use Rattle.query_results.specs.Queries.{by_keys, cols_of, passing, taken}
 use Rattle.query_results.specs.Inner.Pieces.{keys_of}
 use Rattle.query_results.proofs.Unsorted.{unsorted}
-use Rattle.session_queries.specs.Fronts.{AnswersList}
+use Rattle.session_queries.specs.Code.Fronts.{AnswersList}
 use Rattle.session_queries.specs.Inner.Fronts.{in_front}
 use Rattle.session_queries.specs.Inner.Ordering.{ordered, passing_from}
 

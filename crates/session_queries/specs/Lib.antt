@@ -1,3 +1,3 @@
-pub mod Fronts
 pub mod Leaving
+pub mod Code
 pub mod Inner

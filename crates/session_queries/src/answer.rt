@@ -5,7 +5,7 @@ ghost use Rattle.sql_trees.specs.Statements.{column_of, item_of, select_of};
 ghost use Rattle.sql_values.specs.Values.{Answers, each};
 ghost use Rattle.sql_values.specs.Aggregates.{aggregate};
 ghost use Rattle.query_results.specs.Queries.{cols_of, result_of, row_values, select_exprs, titles_of, undefined_among};
-ghost use Rattle.session_queries.specs.Fronts.{AnswersList};
+ghost use Rattle.session_queries.specs.Code.Fronts.{AnswersList};
 ghost use Rattle.session_queries.specs.Inner.Answers.{agg_results, items_answered, has_none, item_row, row_results, selected, counted};
 ghost use Rattle.session_queries.specs.Inner.Fronts.{in_front};
 

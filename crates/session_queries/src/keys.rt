@@ -6,7 +6,7 @@ ghost use Rattle.sql_trees.specs.Statements.{item_of, name_of, order_of};
 ghost use Rattle.sql_trees.specs.Trees.{tree_of};
 ghost use Rattle.sql_values.specs.declared.value.Value.TheVariants.{Null as SqlNull};
 ghost use Rattle.sql_values.specs.Values.{Answers, each};
-ghost use Rattle.session_queries.specs.Fronts.{AnswersList};
+ghost use Rattle.session_queries.specs.Code.Fronts.{AnswersList};
 ghost use Rattle.query_results.specs.Ordering.{rows_at};
 ghost use Rattle.query_results.specs.Inner.Pieces.{keys_of, shown};
 ghost use Rattle.session_queries.specs.Inner.Ordering.{key_answer};

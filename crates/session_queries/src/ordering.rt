@@ -7,7 +7,7 @@ ghost use Rattle.sql_trees.specs.Trees.{tree_of};
 ghost use Rattle.sql_values.specs.Expressions.{passes};
 ghost use Rattle.sql_values.specs.Growing.{may_grow};
 ghost use Rattle.sql_values.specs.Sorting.{can_sort};
-ghost use Rattle.session_queries.specs.Fronts.{AnswersList};
+ghost use Rattle.session_queries.specs.Code.Fronts.{AnswersList};
 ghost use Rattle.query_results.specs.Ordering.{rows_at};
 ghost use Rattle.query_results.specs.Queries.{by_keys, cols_of, taken};
 ghost use Rattle.session_queries.specs.Inner.Ordering.{ordered};

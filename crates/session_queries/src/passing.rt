@@ -6,7 +6,7 @@ ghost use Rattle.sql_trees.specs.Trees.{tree_of};
 ghost use Rattle.sql_values.specs.Expressions.{passes};
 ghost use Rattle.sql_values.specs.Growing.{may_grow};
 ghost use Rattle.sql_values.specs.Values.{Answers};
-ghost use Rattle.session_queries.specs.Fronts.{AnswersList};
+ghost use Rattle.session_queries.specs.Code.Fronts.{AnswersList};
 ghost use Rattle.query_results.specs.Queries.{cols_of, passing};
 
 use crate::known::known;

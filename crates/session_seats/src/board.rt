@@ -1,5 +1,6 @@
 //! Which session's thread is to look at which runs of a crew, and who is woken.
 ghost use Rattle.std.specs.Prelude.{◌≡◌, ◌≤◌, IfErr};
+ghost use Rattle.iso_lexer.specs.declared.limits.TheConstants.{MOST_SESSIONS};
 
 use crate::fault::ThreadFault;
 use std::alloc::Global;
@@ -38,7 +39,7 @@ pub struct Board {
 impl Board {
     /// For the control session and so many sessions beside it, and for so many runs.
     pub fn new(alloc: Global, sessions: u32, runs: usize) -> Result<Board, ThreadFault>
-        requires { sessions ≤ 64 }
+        requires { sessions ≤ MOST_SESSIONS }
         ensures { IfErr result (λ fault. fault ≡ ThreadFault.Memory) }
     {
         let mut desks = Vec::new(alloc);

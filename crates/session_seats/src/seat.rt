@@ -1,5 +1,6 @@
 //! A session's seat: its own events and their replies.
 ghost use Rattle.std.specs.Prelude.{◌≡◌, ◌≤◌, IfOk, IfErr};
+ghost use Rattle.iso_lexer.specs.declared.limits.TheConstants.{MOST_SESSIONS};
 ghost use Rattle.session_seats.specs.Seats.{empty_seat, empty_seats};
 
 use crate::fault::ThreadFault;
@@ -44,7 +45,7 @@ impl<'t> Seat<'t> {
 
 /// A seat for the control session, which is session 0, and for each of so many sessions beside it.
 pub fn empty_seats<'t>(alloc: Global, sessions: u32) -> Result<Vec<Seat<'t>>, ThreadFault>
-    requires { sessions ≤ 64 }
+    requires { sessions ≤ MOST_SESSIONS }
     ensures ok { IfOk result (λ seats. seats.items ≡ empty_seats sessions) }
     ensures err { IfErr result (λ fault. fault ≡ ThreadFault.Memory) }
 {

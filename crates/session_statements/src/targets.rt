@@ -7,7 +7,7 @@ ghost use Rattle.sql_values.specs.declared.fault.ValueFault.{ValueFault as Value
 ghost use Rattle.row_versions.specs.Log.{Content};
 ghost use Rattle.session_machine.specs.Inner.Statements.{assigned_to};
 ghost use Rattle.session_machine.specs.Targets.{at_places, passing_targets, taken_targets};
-ghost use Rattle.session_queries.specs.Fronts.{AnswersList};
+ghost use Rattle.session_queries.specs.Code.Fronts.{AnswersList};
 ghost use Rattle.session_statements.specs.Inner.Keeping.{IsOrderly, RowsIn};
 
 use iso_lexer::Ident;

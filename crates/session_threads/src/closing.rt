@@ -1,5 +1,6 @@
 //! The end of a run: the engine's state beside the seats.
 ghost use Rattle.std.specs.Prelude.{◌≡◌, ◌≤◌, ℕ, Err, None, Some, IfOk, IfErr, IfNone, IfSome};
+ghost use Rattle.iso_lexer.specs.declared.limits.TheConstants.{MOST_SESSIONS};
 ghost use Rattle.row_versions.specs.Log.{empty_content};
 ghost use Rattle.sql_blocks.specs.Blocks.{blocks_of};
 ghost use Rattle.session_machine.specs.Engine.{opened};
@@ -169,7 +170,7 @@ pub fn opened_with_seats<'a, 't, V: Versions>(
     mode: Mode,
     store: V,
 ) -> Result<(EngineState<'a, 't, V>, Vec<Seat<'t>>), ThreadFault>
-    requires few { sessions ≤ 64 }
+    requires few { sessions ≤ MOST_SESSIONS }
     requires empty { V.content store ≡ empty_content }
     ensures ok { IfOk result (λ run. (run.0 ≡ opened (blocks_of blocks.now) sessions mode) × (run.1.items ≡ empty_seats sessions)) }
     ensures err { IfErr result (λ fault. fault ≡ ThreadFault.Memory) }

@@ -1,5 +1,6 @@
 //! Runs with a thread for each session, in which a driver says what is given to whom.
 ghost use Rattle.std.specs.Prelude.{◌≡◌, ◌≤◌, All, [], None, true, IfOk, IfErr, length, map};
+ghost use Rattle.iso_lexer.specs.declared.limits.TheConstants.{MOST_SESSIONS};
 ghost use Rattle.row_versions.specs.Log.{empty_content};
 ghost use Rattle.sql_blocks.specs.Blocks.{blocks_of};
 ghost use Rattle.session_machine.specs.Engine.{is_quiet_in, opened};
@@ -35,7 +36,7 @@ fn open_each<'a, 't, V: Versions, O: Orderings, D: Driver<V> + Drop>(
     sessions: u32,
     runs: Vec<Run<V, D>>,
 ) -> Vec<Opened<EngineState<'a, 't, V>, ByDriver<V, D>>>
-    requires few { sessions ≤ 64 }
+    requires few { sessions ≤ MOST_SESSIONS }
     requires empty { All (λ run. V.content run.store ≡ empty_content) runs.items }
     requires follows { All (λ run. D.follows run.driver []) runs.items }
     requires orders { AreFrom O.orders 0 (map (λ run. D.order_after run.driver) runs.items) }
@@ -80,7 +81,7 @@ fn column<'t>(alloc: Global, session: u32, runs: usize) -> Result<Vec<Seat<'t>>,
 
 /// The seats of all sessions, those of the control session first.
 fn columns<'t>(alloc: Global, sessions: u32, runs: usize) -> Result<Vec<Vec<Seat<'t>>>, ThreadFault>
-    requires { sessions ≤ 64 }
+    requires { sessions ≤ MOST_SESSIONS }
     ensures { IfErr result (λ fault. fault ≡ ThreadFault.Memory) }
 {
     let mut columns = Vec::new(alloc);
@@ -192,7 +193,7 @@ fn run_placed<
     runs: Vec<Run<V, D>>,
     gate: &G,
 ) -> Result<Vec<Result<Closed<'a, 't, V>, ThreadFault>>, ThreadFault>
-    requires few { sessions ≤ 64 }
+    requires few { sessions ≤ MOST_SESSIONS }
     requires empty { All (λ run. V.content run.store ≡ empty_content) runs.items }
     requires follows { All (λ run. D.follows run.driver []) runs.items }
     requires orders { AreFrom O.orders 0 (map (λ run. D.order_after run.driver) runs.items) }
@@ -230,7 +231,7 @@ pub fn run_each<
     runs: Vec<Run<V, D>>,
     gate: &G,
 ) -> Result<Vec<Result<Closed<'a, 't, V>, ThreadFault>>, ThreadFault>
-    requires few { sessions ≤ 64 }
+    requires few { sessions ≤ MOST_SESSIONS }
     requires empty { All (λ run. V.content run.store ≡ empty_content) runs.items }
     requires follows { All (λ run. D.follows run.driver []) runs.items }
     ensures ok { IfOk result (λ closed. RanByEach (blocks_of blocks.now) sessions (map (λ run. D.order_after run.driver) runs.items) closed.items) }
@@ -257,7 +258,7 @@ pub fn run_directed<
     driver: D,
     gate: &G,
 ) -> Result<Closed<'a, 't, V>, ThreadFault>
-    requires few { sessions ≤ 64 }
+    requires few { sessions ≤ MOST_SESSIONS }
     requires empty { V.content store ≡ empty_content }
     requires follows { D.follows driver [] }
     ensures of { IfOk result (λ c. IsOf c.state (blocks_of blocks.now) sessions Mode.Directed) }

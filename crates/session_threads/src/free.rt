@@ -1,5 +1,6 @@
 //! A run in which each session's thread runs the session's script, with no order between sessions.
 ghost use Rattle.std.specs.Prelude.{◌≡◌, ◌≤◌, true, is_some, IfOk, vec_len};
+ghost use Rattle.iso_lexer.specs.declared.limits.TheConstants.{MOST_SESSIONS};
 ghost use Rattle.row_versions.specs.Log.{empty_content};
 ghost use Rattle.sql_blocks.specs.Blocks.{blocks_of};
 ghost use Rattle.session_seats.specs.FreeRuns.{FitsPlan};
@@ -27,7 +28,7 @@ pub fn run_free<'a, 't, V: Versions + Send, G: Gate, R: Threads + Wait + Sync>(
     store: V,
     gate: &G,
 ) -> Result<Closed<'a, 't, V>, ThreadFault>
-    requires few { vec_len plan.now.scripts ≤ 64 }
+    requires few { vec_len plan.now.scripts ≤ MOST_SESSIONS }
     requires empty { V.content store ≡ empty_content }
     ensures of { IfOk result (λ c. IsOf c.state (blocks_of blocks.now) (vec_len plan.now.scripts) Mode.Free) }
     ensures fits { IfOk result (λ c. FitsPlan plan.now c.state.history) }

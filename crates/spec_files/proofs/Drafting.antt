@@ -9,22 +9,22 @@ use Rattle.std.specs.Global.{Vec}
 use Rattle.spec_parser.specs.declared.tree.Entry.{Entry}
 use Rattle.spec_parser.specs.Trees.{EntryTree}
 use Rattle.spec_files.specs.declared.draft.Draft.{Draft}
-use Rattle.spec_files.specs.Drafts.{entries_of, listed}
+use Rattle.spec_files.specs.Drafts.{entries_of, entries_read}
 use Rattle.spec_files.specs.Inner.Drafts.{lists_of, to_come}
 
-pub same_lists : (drafts : List Draft) → map entries_of drafts ≡ lists_of (map listed drafts)
+pub same_lists : (drafts : List Draft) → map entries_of drafts ≡ lists_of (map entries_read drafts)
 same_lists [] = refl
 same_lists (d ∷ ds) = ap (λ (rest : List (List EntryTree)). entries_of d ∷ rest) (same_lists ds)
 
 -- no more drafts than were taken, and no more taken than may run
-pub few_drafts : (drafts : List Draft) (taken : List (Vec Entry)) (most left : ℕ) → map listed drafts ≡ taken → length taken ≤ most → most ≤ left → length drafts ≤ left
+pub few_drafts : (drafts : List Draft) (taken : List (Vec Entry)) (most left : ℕ) → map entries_read drafts ≡ taken → length taken ≤ most → most ≤ left → length drafts ≤ left
 few_drafts drafts taken most left same few within =
-    let long : length (map listed drafts) ≡ length taken = ap length same in
-    omega (arith, length-map drafts listed, long, few, within)
+    let long : length (map entries_read drafts) ≡ length taken = ap length same in
+    omega (arith, length-map drafts entries_read, long, few, within)
 
 -- no draft is left, and these run next
 pub filled : (old drafts : List Draft) (before behind : List (List EntryTree)) (taken : List (Vec Entry)) → length old ≡ 0 → before ≡ lists_of taken ++ behind
-    → map listed drafts ≡ taken → to_come old before ≡ to_come drafts behind
+    → map entries_read drafts ≡ taken → to_come old before ≡ to_come drafts behind
 filled (d ∷ ds) drafts before behind taken none next same = absurd (omega (arith, none))
 filled [] drafts before behind taken none next same = next ∙ ap (λ (lists : List (List EntryTree)). lists ++ behind) (sym (same_lists drafts ∙ ap lists_of same))
 

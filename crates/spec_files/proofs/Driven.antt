@@ -9,7 +9,7 @@ use Rattle.session_seats.specs.Orders.{Orders, IsOrder, OrderedAfter, IsDriven}
 use Rattle.spec_parser.specs.Trees.{EntryTree, SpecTree}
 use Rattle.report_lines.specs.Due.{Launches}
 use Rattle.permutation_plans.specs.Launches.{launches, due_after, due_in}
-use Rattle.permutation_plans.specs.Fits.{IsOrdered, FitsAfter}
+use Rattle.permutation_plans.specs.Code.Fits.{IsOrdered, FitsAfter}
 use Rattle.spec_files.specs.Plans.{Planning, order_after}
 
 is_ordered : (event : Event) (order : Order) → IsOrder event order → IsOrdered event order

@@ -3,6 +3,7 @@ use Rattle.std.proofs.Common.{◌≡◌, ◌≢◌, ℕ, suc, ◌≤◌, true, L
 use Rattle.std.specs.Prelude.{option_to_list}
 use Rattle.std.specs.Global.{Vec}
 use Rattle.std.specs.List.{All, AllByRecursion}
+use Rattle.iso_lexer.specs.declared.limits.TheConstants.{LONGEST_FILE}
 use Rattle.sql_blocks.specs.declared.block.Block.{Block}
 use Rattle.sql_blocks.specs.Blocks.{blocks_of}
 use Rattle.spec_parser.specs.declared.fault.SpecFault.{SpecFault}
@@ -20,7 +21,7 @@ use Rattle.spec_files.specs.Blocks.{BlockWithRole, blocks_in, BlocksRead}
 use Rattle.spec_files.specs.BlockAnswers.{block_as, SayAll, HasShortText}
 use Rattle.spec_files.specs.Files.{FileIs, no_spec, no_sql, is_spec}
 
-refused : (bytes : List ℕ) (f : SpecFault) → length bytes ≤ 1048576 → IsUtf8 bytes → SpecAnswers bytes (Err f) → spec_fault f ≢ told.Memory → FileIs bytes (Err (spec_fault f))
+refused : (bytes : List ℕ) (f : SpecFault) → length bytes ≤ LONGEST_FILE → IsUtf8 bytes → SpecAnswers bytes (Err f) → spec_fault f ≢ told.Memory → FileIs bytes (Err (spec_fault f))
 refused bytes faults.Memory short utf8 a differs = absurd (differs refl)
 refused bytes (faults.Lex f) short utf8 a differs = no_spec (faults.Lex f) short utf8 a
 refused bytes (faults.Expected w at) short utf8 a differs = no_spec (faults.Expected w at) short utf8 a
@@ -31,7 +32,7 @@ refused bytes (faults.NoticesLeftOut at) short utf8 a differs = no_spec (faults.
 refused bytes (faults.Limit at) short utf8 a differs = no_spec (faults.Limit at) short utf8 a
 
 -- the text is that of the bytes
-pub spec_refused : (bytes text : List ℕ) (f : SpecFault) (e : RunFault) → text ≡ bytes → length bytes ≤ 1048576 → IsUtf8 bytes → SpecAnswers text (Err f) → e ≡ spec_fault f → e ≢ told.Memory → FileIs bytes (Err e)
+pub spec_refused : (bytes text : List ℕ) (f : SpecFault) (e : RunFault) → text ≡ bytes → length bytes ≤ LONGEST_FILE → IsUtf8 bytes → SpecAnswers text (Err f) → e ≡ spec_fault f → e ≢ told.Memory → FileIs bytes (Err e)
 spec_refused bytes text f e same short utf8 a is differs =
     subst (λ (d : RunFault). FileIs bytes (Err d)) (sym is) (refused bytes f short utf8 (subst (λ t. SpecAnswers t (Err f)) same a) (subst (λ (d : RunFault). d ≢ told.Memory) is differs))
 
@@ -39,12 +40,12 @@ spec_refused bytes text f e same short utf8 a is differs =
 
 -- it is short enough, UTF-8, and says this, with these blocks
 pub record IsSpecFile (bytes : List ℕ) (spec : SpecTree) (parts : List BlockWithRole) : Type 0 where
-  pub short : length bytes ≤ 1048576
+  pub short : length bytes ≤ LONGEST_FILE
   pub utf8 : IsUtf8 bytes
   pub reads : SpecReads bytes (Ok spec)
   pub same : parts ≡ blocks_in spec
 
-pub spec_file : (bytes text : List ℕ) (spec : SpecTree) (parts : List BlockWithRole) → text ≡ bytes → length bytes ≤ 1048576 → IsUtf8 bytes → SpecReads text (Ok spec) → parts ≡ blocks_in spec → IsSpecFile bytes spec parts
+pub spec_file : (bytes text : List ℕ) (spec : SpecTree) (parts : List BlockWithRole) → text ≡ bytes → length bytes ≤ LONGEST_FILE → IsUtf8 bytes → SpecReads text (Ok spec) → parts ≡ blocks_in spec → IsSpecFile bytes spec parts
 spec_file bytes text spec parts same short utf8 reads e = record { short = short; utf8 = utf8; reads = subst (λ t. SpecReads t (Ok spec)) same reads; same = e }
 
 pub block_refused : (bytes : List ℕ) (spec : SpecTree) (parts : List BlockWithRole) (e : RunFault) → IsSpecFile bytes spec parts → SayAll parts (Err e) → e ≢ told.Memory → FileIs bytes (Err e)
@@ -108,11 +109,11 @@ all_back : {A : Type 0} (P : A → Type 0) (xs ys : List A) → AllByRecursion P
 all_back P [] ys a = a
 all_back P (x ∷ xs) ys a = all_back P xs ys a.1
 
-own_short : (text : List ℕ) (role : Role) → length text ≤ 1048576 → (ps : List PartTree) → AllByRecursion (PartLies text) ps → AllByRecursion HasShortText (map (block_as role) ps)
+own_short : (text : List ℕ) (role : Role) → length text ≤ LONGEST_FILE → (ps : List PartTree) → AllByRecursion (PartLies text) ps → AllByRecursion HasShortText (map (block_as role) ps)
 own_short text role short [] all = tt
 own_short text role short (p ∷ ps) all = (let within = all.0.within in omega arith, own_short text role short ps all.1)
 
-all_short : (text : List ℕ) (spec : SpecTree) → length text ≤ 1048576 → LiesIn text spec → AllByRecursion HasShortText (blocks_in spec)
+all_short : (text : List ℕ) (spec : SpecTree) → length text ≤ LONGEST_FILE → LiesIn text spec → AllByRecursion HasShortText (blocks_in spec)
 all_short text spec short lies =
     let all : AllByRecursion (PartLies text) (parts_of spec) = all_to (PartLies text) (parts_of spec) lies.parts in
     let mains = spec.setups ++ option_to_list spec.teardown in

@@ -8,7 +8,7 @@ use Rattle.spec_parser.specs.declared.tree.Entry.{Entry}
 use Rattle.spec_files.specs.declared.draft.Draft.{Draft}
 use Rattle.spec_files.specs.declared.side_by_side.Coming.{Coming}
 use Rattle.spec_files.specs.declared.side_by_side.Coming.TheVariants.{There}
-use Rattle.spec_files.specs.Drafts.{AreDrafts, listed}
+use Rattle.spec_files.specs.Drafts.{AreDrafts, entries_read}
 use Rattle.spec_files.specs.Inner.Coming.{all_entries, coming_entries, IsComing}
 
 of_one : {X : Type 0} (P : X → Type 0) (x : X) → P x → All P (x ∷ [])
@@ -61,7 +61,7 @@ all_begun gives lent coming taken so = sym (append-nil (all_entries coming)) ∙
 pub record Joined {L : Type 0} (gives : L → Draft → Type 0) (lent : L) (all left : List (Coming L)) (drafts : List Draft) : Type 0 where
   pub coming : All (IsComing gives lent) left
   pub given : All (gives lent) drafts
-  pub entries : map listed drafts ++ all_entries left ≡ all_entries all
+  pub entries : map entries_read drafts ++ all_entries left ≡ all_entries all
 
 pub joined_more : {L : Type 0} (gives : L → Draft → Type 0) (lent : L) (all left rest : List (Coming L)) (drafts now : List Draft) (coming : Coming L) (more : Vec Draft)
     → Joined gives lent all left drafts → left ≡ coming ∷ rest → now ≡ drafts ++ more.items
@@ -69,20 +69,20 @@ pub joined_more : {L : Type 0} (gives : L → Draft → Type 0) (lent : L) (all 
 joined_more {L = L} gives lent all left rest drafts now coming more so first pushed given =
     let behind = subst (All (IsComing gives lent)) first so.coming in
     let of_it = given (behind 0 coming (omega arith)) in
-    let left_of_all : map listed drafts ++ (coming_entries coming ++ all_entries rest) ≡ all_entries all =
-    subst (λ (cs : List (Coming L)). map listed drafts ++ all_entries cs ≡ all_entries all) first so.entries in
+    let left_of_all : map entries_read drafts ++ (coming_entries coming ++ all_entries rest) ≡ all_entries all =
+    subst (λ (cs : List (Coming L)). map entries_read drafts ++ all_entries cs ≡ all_entries all) first so.entries in
     record {
       coming = λ k d lt. behind (suc k) d (omega (arith, lt));
       given = subst (All (gives lent)) (sym pushed) (All-append (gives lent) drafts more.items so.given of_it.given);
       entries =
-          ap (λ (ds : List Draft). map listed ds ++ all_entries rest) pushed
-          ∙ ap (λ (es : List (Vec Entry)). es ++ all_entries rest) (map-append listed drafts more.items)
-          ∙ append_assoc (map listed drafts) (map listed more.items) (all_entries rest)
-          ∙ ap (λ (es : List (Vec Entry)). map listed drafts ++ (es ++ all_entries rest)) of_it.entries
+          ap (λ (ds : List Draft). map entries_read ds ++ all_entries rest) pushed
+          ∙ ap (λ (es : List (Vec Entry)). es ++ all_entries rest) (map-append entries_read drafts more.items)
+          ∙ append_assoc (map entries_read drafts) (map entries_read more.items) (all_entries rest)
+          ∙ ap (λ (es : List (Vec Entry)). map entries_read drafts ++ (es ++ all_entries rest)) of_it.entries
           ∙ left_of_all;
     }
 
 pub joined_all : {L : Type 0} (gives : L → Draft → Type 0) (lent : L) (all left : List (Coming L)) (drafts : Vec Draft)
     → Joined gives lent all left drafts.items → length left ≡ 0 → AreDrafts (gives lent) (all_entries all) drafts
-joined_all gives lent all [] drafts so none = record { given = so.given; entries = sym (append-nil (map listed drafts.items)) ∙ so.entries }
+joined_all gives lent all [] drafts so none = record { given = so.given; entries = sym (append-nil (map entries_read drafts.items)) ∙ so.entries }
 joined_all gives lent all (c ∷ cs) drafts so none = absurd (omega (arith, none))

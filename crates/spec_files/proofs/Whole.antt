@@ -1,7 +1,7 @@
 -- The run of a whole file.
 use Rattle.std.proofs.Common.{◌≡◌, ◌≢◌, ◌≤◌, ℕ, true, List, [], length, Option, Result, Ok, Err, subst}
 use Rattle.std.specs.Prelude.{IsUtf8}
-use Rattle.iso_lexer.specs.SpecText.{longest_file}
+use Rattle.iso_lexer.specs.declared.limits.TheConstants.{LONGEST_FILE}
 use Rattle.std.specs.Io.KnownBytes.{Appends}
 use Rattle.permutation_lists.specs.Permutations.{permutations_of}
 use Rattle.spec_files.specs.declared.fault.RunFault.{RunFault}
@@ -51,5 +51,5 @@ broke bytes limit file wo wm wn eo en line is same put b = record {
 }
 
 -- a spec is no longer than a file may be, and in UTF-8
-pub room_of : (bytes : List ℕ) (f : File) → FileIs bytes (Ok f) → (length bytes ≤ longest_file) × IsUtf8 bytes
+pub room_of : (bytes : List ℕ) (f : File) → FileIs bytes (Ok f) → (length bytes ≤ LONGEST_FILE) × IsUtf8 bytes
 room_of bytes f (is_spec spec blocks few utf8 reads says) = (few, utf8)

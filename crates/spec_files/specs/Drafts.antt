@@ -13,8 +13,8 @@ abbrev pub entries_of : Draft → List EntryTree
 entries_of draft = perm_view draft.entries
 
 -- the entries of a draft, as they were read
-abbrev pub listed : Draft → Vec Entry
-listed draft = draft.entries
+abbrev pub entries_read : Draft → Vec Entry
+entries_read draft = draft.entries
 
 -- the permutation's run was written to pages that held nothing; where memory was refused to a page the answer says so
 pub record IsDraft (spec : SpecTree) (blocks : Blocks) (draft : Draft) : Type 0 where
@@ -27,7 +27,7 @@ pub record IsDraft (spec : SpecTree) (blocks : Blocks) (draft : Draft) : Type 0 
 -- each of the drafts is as this says, and they are the drafts of these entries, in the same order
 pub record AreDrafts (is_draft : Draft → Type 0) (taken : List (Vec Entry)) (drafts : Vec Draft) : Type 0 where
   pub given : All is_draft drafts.items
-  pub entries : map listed drafts.items ≡ taken
+  pub entries : map entries_read drafts.items ≡ taken
 
 -- the list is empty, with room for a draft of each of these
 pub record HasRoomFor (drafts : Vec Draft) (taken : List (Vec Entry)) : Type 0 where

@@ -2,7 +2,7 @@
 use Rattle.std.specs.Prelude.{ℕ, ◌<◌, ◌≤◌, List, length, IsUtf8, Result, Ok, Err}
 use Rattle.std.specs.Str.Lossy.{utf8_valid_len}
 use Rattle.iso_lexer.specs.declared.fault.FaultKind.TheVariants.{FileTooLong}
-use Rattle.iso_lexer.specs.SpecText.{longest_file}
+use Rattle.iso_lexer.specs.declared.limits.TheConstants.{LONGEST_FILE}
 use Rattle.session_machine.specs.Machine.{Blocks}
 use Rattle.spec_parser.specs.declared.fault.SpecFault.{SpecFault}
 use Rattle.spec_parser.specs.Trees.{SpecTree}
@@ -19,10 +19,10 @@ pub record File : Type 0 where
 
 -- A file that is too long, that is no UTF-8, that is no spec, or of which a block is no SQL, in this order; or it is this spec.
 pub data FileIs (bytes : List ℕ) : Result File RunFault → Type 0 where
-  longer : longest_file < length bytes → FileIs bytes (Err (faults.Lex (record { kind = FileTooLong; at = longest_file })))
-  no_text : length bytes ≤ longest_file → (IsUtf8 bytes → ⊥) → FileIs bytes (Err (faults.NotUtf8 (utf8_valid_len bytes)))
-  no_spec : (f : SpecFault) → length bytes ≤ longest_file → IsUtf8 bytes → SpecReads bytes (Err f) → FileIs bytes (Err (spec_fault f))
-  no_sql : (spec : SpecTree) (f : BlockFault) → length bytes ≤ longest_file → IsUtf8 bytes → SpecReads bytes (Ok spec) → BlocksRead (blocks_in spec) (Err f)
+  longer : LONGEST_FILE < length bytes → FileIs bytes (Err (faults.Lex (record { kind = FileTooLong; at = LONGEST_FILE })))
+  no_text : length bytes ≤ LONGEST_FILE → (IsUtf8 bytes → ⊥) → FileIs bytes (Err (faults.NotUtf8 (utf8_valid_len bytes)))
+  no_spec : (f : SpecFault) → length bytes ≤ LONGEST_FILE → IsUtf8 bytes → SpecReads bytes (Err f) → FileIs bytes (Err (spec_fault f))
+  no_sql : (spec : SpecTree) (f : BlockFault) → length bytes ≤ LONGEST_FILE → IsUtf8 bytes → SpecReads bytes (Ok spec) → BlocksRead (blocks_in spec) (Err f)
       → FileIs bytes (Err (faults.Sql f))
-  is_spec : (spec : SpecTree) (blocks : Blocks) → length bytes ≤ longest_file → IsUtf8 bytes → SpecReads bytes (Ok spec) → BlocksRead (blocks_in spec) (Ok blocks)
+  is_spec : (spec : SpecTree) (blocks : Blocks) → length bytes ≤ LONGEST_FILE → IsUtf8 bytes → SpecReads bytes (Ok spec) → BlocksRead (blocks_in spec) (Ok blocks)
       → FileIs bytes (Ok (record { spec = spec; blocks = blocks }))

@@ -7,7 +7,6 @@ pub mod Lists
 pub mod FirstLine
 pub mod Prints
 pub mod Plans
-pub mod Following
 pub mod Written
 pub mod Broken
 pub mod Runs
@@ -17,4 +16,5 @@ pub mod Drafts
 pub mod Runners
 pub mod Promises
 pub mod Laws
+pub mod Code
 pub mod Inner

@@ -3,7 +3,7 @@ use Rattle.std.specs.Prelude.{List}
 use Rattle.session_machine.specs.declared.event.Order.{Order}
 use Rattle.session_machine.specs.declared.reply.HistItem.{HistItem}
 use Rattle.report_lines.specs.declared.progress.PlanProgress.{PlanProgress}
-use Rattle.report_lines.specs.Progress.{KeepsFront}
+use Rattle.report_lines.specs.Code.Progress.{KeepsFront}
 use Rattle.spec_parser.specs.Trees.{EntryTree}
 use Rattle.report_lines.specs.Due.{Launches}
 use Rattle.permutation_plans.specs.Launches.{run_of, due_after}

@@ -3,7 +3,7 @@ use Rattle.std.specs.Prelude.{◌≡◌, ◌≢◌, ◌↔◌, ◌||◌, ℕ, �
 use Rattle.iso_lexer.specs.declared.device.Sink.{Ghosts as Sink}
 use Rattle.iso_lexer.specs.declared.device.Source.{Ghosts as Source}
 use Rattle.iso_lexer.specs.Devices.{IsFront}
-use Rattle.iso_lexer.specs.SpecText.{longest_file}
+use Rattle.iso_lexer.specs.declared.limits.TheConstants.{LONGEST_FILE}
 use Rattle.spec_files.specs.declared.fault.RunFault.{RunFault}
 use Rattle.spec_files.specs.declared.fault.RunFault.TheVariants as faults
 use Rattle.spec_files.specs.Begun.{Begun, FileMaySay, FileSaysFreely, Untouched}
@@ -16,7 +16,7 @@ use Rattle.report_text.specs.Said.{Said}
 
 -- it holds of the file that is left to read, where the source tells its bytes: no more is read than one byte over the longest file
 abbrev pub IfFile : Option (List ℕ) → (List ℕ → Type 0) → Type 0
-IfFile left P = IfSome left (λ bytes. P (take (longest_file + 1) bytes))
+IfFile left P = IfSome left (λ bytes. P (take (LONGEST_FILE + 1) bytes))
 
 module _ {S W N : Type 0} (source : Source S) (sink : Sink W) (noted : Sink N) (input_old input_new : S) (out_old out_new : W) (notes_old notes_new : N) where
   -- the file that is left to read was run, so many of its permutations at most
@@ -45,7 +45,7 @@ module _ {S W N : Type 0} (source : Source S) (sink : Sink W) (noted : Sink N) (
     -- Write is answered only where a sink has failed
     pub write : IsErrOf result faults.Write → (sink.failed out_new || noted.failed notes_new) ≡ true
     -- where the file was read, its bytes were taken off the source, and no others
-    pub taken : IsTrue (has_read result) → (bytes : List ℕ) × IsFront (longest_file + 1) (source.left input_old) (source.left input_new) bytes
+    pub taken : IsTrue (has_read result) → (bytes : List ℕ) × IsFront (LONGEST_FILE + 1) (source.left input_old) (source.left input_new) bytes
 
   -- the file that is left to read was run freely
   pub record SpecIsRunFreely (result : Result (Unit {0}) RunFault) : Type 0 where
@@ -72,4 +72,4 @@ module _ {S W N : Type 0} (source : Source S) (sink : Sink W) (noted : Sink N) (
     -- Write is answered only where a sink has failed
     pub write : IsErrOf result faults.Write → (sink.failed out_new || noted.failed notes_new) ≡ true
     -- where the file was read, its bytes were taken off the source, and no others
-    pub taken : IsTrue (has_read result) → (bytes : List ℕ) × IsFront (longest_file + 1) (source.left input_old) (source.left input_new) bytes
+    pub taken : IsTrue (has_read result) → (bytes : List ℕ) × IsFront (LONGEST_FILE + 1) (source.left input_old) (source.left input_new) bytes

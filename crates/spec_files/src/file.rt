@@ -1,7 +1,7 @@
 //! A file as a spec with the statements of its blocks.
 
 ghost use Rattle.std.specs.Prelude.{◌≡◌, ◌≢◌, ◌≤◌, length, true, Ok, Err, IsUtf8, IfOk, IfErr, IsErrOf};
-ghost use Rattle.iso_lexer.specs.SpecText.{longest_file};
+ghost use Rattle.iso_lexer.specs.declared.limits.TheConstants.{LONGEST_FILE};
 ghost use Rattle.spec_parser.specs.Trees.{spec_view};
 ghost use Rattle.spec_parser.specs.Stands.{Stands};
 ghost use Rattle.spec_files.specs.BlockAnswers.{file_view};
@@ -24,7 +24,7 @@ pub struct SpecFile<'a> {
 
 /// The text of a file that is not too long and in UTF-8.
 fn text_of(bytes: &[u8]) -> Result<&str, RunFault>
-    ensures ok { IfOk result (λ text. (text.now ≡ bytes.now) × (length bytes.now ≤ longest_file) × IsUtf8 bytes.now) }
+    ensures ok { IfOk result (λ text. (text.now ≡ bytes.now) × (length bytes.now ≤ LONGEST_FILE) × IsUtf8 bytes.now) }
     ensures err { IfErr result (λ e. FileIs bytes.now (Err e)) }
     ensures kinds { IfErr result (λ e. is_refusal e ≡ true) }
     ensures read { IfErr result (λ e. is_of_reading e ≡ true) }
@@ -50,7 +50,7 @@ pub fn read_file(alloc: Global, bytes: &[u8]) -> Result<SpecFile<'_>, RunFault>
     ensures err { IfErr result (λ e. e ≢ RunFault.Memory → FileIs bytes.now (Err e)) }
     ensures kinds { IfErr result (λ e. is_of_reading e ≡ true) }
     // What is too long or no UTF-8 is refused before anything grows.
-    ensures room { IsErrOf result RunFault.Memory → (length bytes.now ≤ longest_file) × IsUtf8 bytes.now }
+    ensures room { IsErrOf result RunFault.Memory → (length bytes.now ≤ LONGEST_FILE) × IsUtf8 bytes.now }
 {
     specs_stand();
     specs_are_slices();

@@ -1,7 +1,7 @@
 //! Runs a spec file freely, by what runs a spec: each session's steps in their order, with no order between sessions.
 
 ghost use Rattle.std.specs.Prelude.{◌≡◌, ◌≢◌, ◌≤◌, ◌||◌, length, Err, true, IsTrue, IsUtf8, IfErr, IsErrOf};
-ghost use Rattle.iso_lexer.specs.SpecText.{longest_file};
+ghost use Rattle.iso_lexer.specs.declared.limits.TheConstants.{LONGEST_FILE};
 ghost use Rattle.spec_files.specs.Begun.{Begun, FileSaysFreely};
 ghost use Rattle.spec_files.specs.Files.{FileIs};
 ghost use Rattle.spec_files.specs.FreeRuns.{FileFreeTold};
@@ -30,7 +30,7 @@ fn run_file_freely<
     ensures broken { IsTrue (has_broken result) → (out.new ≡ out.old) × (notes.new ≡ notes.old) }
     ensures unbroken { result ≢ Err RunFault.ScheduleBroken }
     ensures memory { IfErr result (λ e. tells_memory e ≡ true) }
-    ensures room { IsErrOf result RunFault.Memory → (length bytes.now ≤ longest_file) × IsUtf8 bytes.now }
+    ensures room { IsErrOf result RunFault.Memory → (length bytes.now ≤ LONGEST_FILE) × IsUtf8 bytes.now }
     ensures write { IsErrOf result RunFault.Write → (W.failed out.new || N.failed notes.new) ≡ true }
     ensures read { result ≢ Err RunFault.Read }
 {

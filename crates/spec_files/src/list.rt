@@ -3,7 +3,7 @@
 ghost use Rattle.std.specs.Prelude.{◌≡◌, ◌≢◌, ◌↔◌, ◌+◌, List, ℕ, Ok, Err, true, false, IsTrue, IfErr, IsErrOf};
 ghost use Rattle.std.specs.Io.KnownBytes.{Appends};
 ghost use Rattle.iso_lexer.specs.Devices.{IsFront, PutsFront};
-ghost use Rattle.iso_lexer.specs.SpecText.{longest_file};
+ghost use Rattle.iso_lexer.specs.declared.limits.TheConstants.{LONGEST_FILE};
 ghost use Rattle.spec_parser.specs.Trees.{spec_view};
 ghost use Rattle.spec_parser.specs.Stands.{Stands};
 ghost use Rattle.permutation_lists.specs.Permutations.{permutations_of};
@@ -80,7 +80,7 @@ pub fn list_spec<S: Source, W: Sink>(
     ensures unread { IsErrOf result RunFault.Read → out.new ≡ out.old }
     ensures kinds { IfErr result (λ e. is_of_listing e ≡ true) }
     ensures write { IsErrOf result RunFault.Write → W.failed out.new ≡ true }
-    ensures taken { IsTrue (has_read result) → ((bytes : List ℕ) × IsFront (longest_file + 1) (S.left input.old) (S.left input.new) bytes) }
+    ensures taken { IsTrue (has_read result) → ((bytes : List ℕ) × IsFront (LONGEST_FILE + 1) (S.left input.old) (S.left input.new) bytes) }
 {
     let bytes = read_all(alloc, input, LONGEST_FILE + 1)?;
     list_file(alloc, &bytes, out, limit)

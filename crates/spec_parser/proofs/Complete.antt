@@ -2,6 +2,7 @@
 use Rattle.std.proofs.Common.{◌≡◌, ◌≤◌, ◌<◌, ◌⊎◌, inl, inr, ◌+◌, arith, length, ℕ, zero, suc, Bool, true, false, cond, List, [], ◌∷◌, ◌++◌, Option, Some, Ok, Err, refl, sym, ap, subst, ◌∙◌, append_assoc, length-append}
 use Rattle.std.specs.Prelude.{unwrap_or, nat_lt}
 use Rattle.std.proofs.lemmas.Bool.{ltb-false}
+use Rattle.iso_lexer.specs.declared.limits.TheConstants.{MOST_ENTRIES, MOST_SESSIONS, MOST_STEPS}
 use Rattle.iso_lexer.specs.declared.token.At.{At}
 use Rattle.iso_lexer.specs.declared.spec_token.Keyword.{Keyword}
 use Rattle.iso_lexer.specs.declared.spec_token.Keyword.TheVariants.{Permutation, Session, Setup, Step, Teardown, Notices}
@@ -23,8 +24,8 @@ use Rattle.spec_parser.proofs.Local.{first_is, ◌>>=◌, past_twice, stops_at, 
 
 -- what is over a limit: the sessions or steps up to a place, or what was read
 pub data IsOver {A : Type 0} (Long : A → Type 0) (d : Counts) (x : A) : Type 0 where
-  many_sessions : 64 < d.sessions → IsOver Long d x
-  many_steps : 1000 < d.steps → IsOver Long d x
+  many_sessions : MOST_SESSIONS < d.sessions → IsOver Long d x
+  many_steps : MOST_STEPS < d.steps → IsOver Long d x
   long : Long x → IsOver Long d x
 
 pub data Again {A : Type 0} (Long : A → Type 0) (x : A) (after : Rest) (read : Read A) : Type 0 where
@@ -259,14 +260,14 @@ step_end_again n = seq (one a_block) (λ b. gives (step_of n b)) block_next (λ 
 abbrev AfterStep : Grammar (StepOf NameAt)
 AfterStep = one a_name ▸ λ n. one a_block ▸ λ b. gives (step_of n b)
 
-named_step_again : (d : Counts) → CompletesOr (λ _. 1000 ≤ d.steps) AfterStep (λ r. name_within d.steps 1000 r >>= λ n. block_next n.1 >>= λ b. (Ok (step_of n.0 b.0), b.1)) Any
-named_step_again d = seq_or (λ _. 1000 ≤ d.steps) (λ _. 1000 ≤ d.steps) (one a_name) (λ n. one a_block ▸ λ b. gives (step_of n b)) (name_within d.steps 1000) (λ n. block_next n.1 >>= λ b. (Ok (step_of n.0 b.0), b.1)) Any Any (λ c x ts z h k. k) (name_within_again d.steps 1000)
-    (λ n. weaken (λ _. 1000 ≤ d.steps) (one a_block ▸ λ b. gives (step_of n b)) (λ r. block_next r >>= λ b. (Ok (step_of n b.0), b.1)) Any (step_end_again n)) (λ e x ys rest z f h. tt)
+named_step_again : (d : Counts) → CompletesOr (λ _. MOST_STEPS ≤ d.steps) AfterStep (λ r. name_within d.steps MOST_STEPS r >>= λ n. block_next n.1 >>= λ b. (Ok (step_of n.0 b.0), b.1)) Any
+named_step_again d = seq_or (λ _. MOST_STEPS ≤ d.steps) (λ _. MOST_STEPS ≤ d.steps) (one a_name) (λ n. one a_block ▸ λ b. gives (step_of n b)) (name_within d.steps MOST_STEPS) (λ n. block_next n.1 >>= λ b. (Ok (step_of n.0 b.0), b.1)) Any Any (λ c x ts z h k. k) (name_within_again d.steps MOST_STEPS)
+    (λ n. weaken (λ _. MOST_STEPS ≤ d.steps) (one a_block ▸ λ b. gives (step_of n b)) (λ r. block_next r >>= λ b. (Ok (step_of n b.0), b.1)) Any (step_end_again n)) (λ e x ys rest z f h. tt)
 
 step_again : Completes step step_at Any
 unfolding step_at
-step_again = seq_from Never (λ d _. 1000 ≤ d.steps) Never (one (a_word Step)) (λ _. AfterStep) (word_at Step what.Item)
-    (λ d key. name_within d.steps 1000 key.1 >>= λ n. block_next n.1 >>= λ b. (Ok (step_of n.0 b.0), b.1)) Any Any (λ c x xs ys z h k. absurd k)
+step_again = seq_from Never (λ d _. MOST_STEPS ≤ d.steps) Never (one (a_word Step)) (λ _. AfterStep) (word_at Step what.Item)
+    (λ d key. name_within d.steps MOST_STEPS key.1 >>= λ n. block_next n.1 >>= λ b. (Ok (step_of n.0 b.0), b.1)) Any Any (λ c x xs ys z h k. absurd k)
     (λ c x xs ys z w lt. many_steps (omega (arith, lt, ap (λ (d : Counts). d.steps) (word_past Step c xs x w), (grows (past c xs) ys).1)))
     (word_again Step what.Item) (λ d _. named_step_again d) (λ d x ys rest z f h. tt)
 
@@ -312,14 +313,14 @@ set_up_again : (n : NameAt) → Completes (SetUp n) (λ r. setup_at r >>= λ set
 set_up_again n = seq (Maybe (block_behind Setup)) (Stepped n) setup_at (λ setup. steps_at setup.1 >>= λ steps. teardown_at steps.1 >>= λ teardown. (Ok (session_of n setup.0 steps.0 teardown.0), teardown.1)) (NotFirst (is_keyword Setup)) BehindSession setup_again (stepped_again n)
     (λ d x ys rest z f h. no_setup_first n x d ys rest z h)
 
-named_session_again : (d : Counts) → CompletesOr (λ _. 64 ≤ d.sessions) (one a_name ▸ SetUp) (λ r. name_within d.sessions 64 r >>= λ n. setup_at n.1 >>= λ setup. steps_at setup.1 >>= λ steps. teardown_at steps.1 >>= λ teardown. (Ok (session_of n.0 setup.0 steps.0 teardown.0), teardown.1)) BehindSession
-named_session_again d = seq_or (λ _. 64 ≤ d.sessions) (λ _. 64 ≤ d.sessions) (one a_name) SetUp (name_within d.sessions 64) (λ n. setup_at n.1 >>= λ setup. steps_at setup.1 >>= λ steps. teardown_at steps.1 >>= λ teardown. (Ok (session_of n.0 setup.0 steps.0 teardown.0), teardown.1)) Any BehindSession (λ c x ts z h k. k) (name_within_again d.sessions 64)
-    (λ n. weaken (λ _. 64 ≤ d.sessions) (SetUp n) (λ r. setup_at r >>= λ setup. steps_at setup.1 >>= λ steps. teardown_at steps.1 >>= λ teardown. (Ok (session_of n setup.0 steps.0 teardown.0), teardown.1)) BehindSession (set_up_again n)) (λ e x ys rest z f h. tt)
+named_session_again : (d : Counts) → CompletesOr (λ _. MOST_SESSIONS ≤ d.sessions) (one a_name ▸ SetUp) (λ r. name_within d.sessions MOST_SESSIONS r >>= λ n. setup_at n.1 >>= λ setup. steps_at setup.1 >>= λ steps. teardown_at steps.1 >>= λ teardown. (Ok (session_of n.0 setup.0 steps.0 teardown.0), teardown.1)) BehindSession
+named_session_again d = seq_or (λ _. MOST_SESSIONS ≤ d.sessions) (λ _. MOST_SESSIONS ≤ d.sessions) (one a_name) SetUp (name_within d.sessions MOST_SESSIONS) (λ n. setup_at n.1 >>= λ setup. steps_at setup.1 >>= λ steps. teardown_at steps.1 >>= λ teardown. (Ok (session_of n.0 setup.0 steps.0 teardown.0), teardown.1)) Any BehindSession (λ c x ts z h k. k) (name_within_again d.sessions MOST_SESSIONS)
+    (λ n. weaken (λ _. MOST_SESSIONS ≤ d.sessions) (SetUp n) (λ r. setup_at r >>= λ setup. steps_at setup.1 >>= λ steps. teardown_at steps.1 >>= λ teardown. (Ok (session_of n setup.0 steps.0 teardown.0), teardown.1)) BehindSession (set_up_again n)) (λ e x ys rest z f h. tt)
 
 session_again : Completes session session_at BehindSession
 unfolding session_at
-session_again = seq_from Never (λ d _. 64 ≤ d.sessions) Never (one (a_word Session)) (λ _. one a_name ▸ SetUp) (word_at Session what.Item)
-    (λ d key. name_within d.sessions 64 key.1 >>= λ n. setup_at n.1 >>= λ setup. steps_at setup.1 >>= λ steps. teardown_at steps.1 >>= λ teardown. (Ok (session_of n.0 setup.0 steps.0 teardown.0), teardown.1)) Any BehindSession (λ c x xs ys z h k. absurd k)
+session_again = seq_from Never (λ d _. MOST_SESSIONS ≤ d.sessions) Never (one (a_word Session)) (λ _. one a_name ▸ SetUp) (word_at Session what.Item)
+    (λ d key. name_within d.sessions MOST_SESSIONS key.1 >>= λ n. setup_at n.1 >>= λ setup. steps_at setup.1 >>= λ steps. teardown_at steps.1 >>= λ teardown. (Ok (session_of n.0 setup.0 steps.0 teardown.0), teardown.1)) Any BehindSession (λ c x xs ys z h k. absurd k)
     (λ c x xs ys z w lt. many_sessions (omega (arith, lt, ap (λ (d : Counts). d.sessions) (word_past Session c xs x w), (grows (past c xs) ys).0)))
     (word_again Session what.Item) (λ d _. named_session_again d) (λ d x ys rest z f h. tt)
 
@@ -413,21 +414,21 @@ Marks n = Maybe markers ▸ λ ms. gives (entry_of n ms)
 marks_again : (n : NameAt) → Completes (Marks n) (λ r. some_markers_at r >>= λ ms. (Ok (entry_of n ms.0), ms.1)) BehindEntry
 marks_again n = seq (Maybe markers) (λ ms. gives (entry_of n ms)) some_markers_at (λ ms. (Ok (entry_of n ms.0), ms.1)) BehindEntry BehindEntry some_markers_again (λ ms. gives_again (entry_of n ms) BehindEntry) (λ d x ys rest z f h. stays BehindEntry ys rest h.0 f)
 
-entry_again : (k : ℕ) → CompletesOr (λ _. 1000 ≤ k) entry (entry_at k) BehindEntry
+entry_again : (k : ℕ) → CompletesOr (λ _. MOST_ENTRIES ≤ k) entry (entry_at k) BehindEntry
 unfolding entry_at
-entry_again k = seq_or (λ _. 1000 ≤ k) (λ _. 1000 ≤ k) (one a_name) Marks (name_within k 1000) (λ n. some_markers_at n.1 >>= λ ms. (Ok (entry_of n.0 ms.0), ms.1)) Any BehindEntry (λ c x ts z h k. k) (name_within_again k 1000)
-    (λ n. weaken (λ _. 1000 ≤ k) (Marks n) (λ r. some_markers_at r >>= λ ms. (Ok (entry_of n ms.0), ms.1)) BehindEntry (marks_again n)) (λ d x ys rest z f h. tt)
+entry_again k = seq_or (λ _. MOST_ENTRIES ≤ k) (λ _. MOST_ENTRIES ≤ k) (one a_name) Marks (name_within k MOST_ENTRIES) (λ n. some_markers_at n.1 >>= λ ms. (Ok (entry_of n.0 ms.0), ms.1)) Any BehindEntry (λ c x ts z h k. k) (name_within_again k MOST_ENTRIES)
+    (λ n. weaken (λ _. MOST_ENTRIES ≤ k) (Marks n) (λ r. some_markers_at r >>= λ ms. (Ok (entry_of n ms.0), ms.1)) BehindEntry (marks_again n)) (λ d x ys rest z f h. tt)
 
 abbrev BehindEntries : List (At SpecToken) → Type 0
 BehindEntries rest = NotFirst is_name rest × BehindEntry rest
 
 -- a permutation of more than 1,000 entries
 abbrev pub IsLong : List NamedEntry → Type 0
-IsLong es = 1000 < length es
+IsLong es = MOST_ENTRIES < length es
 
 entries_again : CompletesOr IsLong (some entry) entries_at BehindEntries
-entries_again = reword (λ es. 1000 < 0 + length es) IsLong (some entry) (some_at what.Name starts_name entry_at) BehindEntries (λ es h. omega (arith, h))
-    (some_or (λ k _. 1000 ≤ k) (λ k es. 1000 < k + length es) entry what.Name is_name entry_at BehindEntry (λ k x xs h. omega (arith, h)) (λ k x xs h. omega (arith, h)) entry_again
+entries_again = reword (λ es. MOST_ENTRIES < 0 + length es) IsLong (some entry) (some_at what.Name starts_name entry_at) BehindEntries (λ es h. omega (arith, h))
+    (some_or (λ k _. MOST_ENTRIES ≤ k) (λ k es. MOST_ENTRIES < k + length es) entry what.Name is_name entry_at BehindEntry (λ k x xs h. omega (arith, h)) (λ k x xs h. omega (arith, h)) entry_again
     (begins_name (λ n. Maybe markers ▸ λ ms. gives (entry_of n ms)) is_name true (λ m. refl)) (first_takes a_name (λ n. Maybe markers ▸ λ ms. gives (entry_of n ms))) (begins_name (λ n. Maybe markers ▸ λ ms. gives (entry_of n ms)) (is_mark Open) false (λ m. refl)))
 
 perm_again : CompletesOr IsLong perm perm_at BehindEntries

@@ -3,6 +3,7 @@ use Rattle.std.proofs.Common.{◌≡◌, ◌≤◌, ◌<◌, ◌+◌, ◌⊎◌,
 use Rattle.std.specs.Prelude.{All, nat_lt, option_to_list}
 use Rattle.std.specs.List.{AllByRecursion}
 use Rattle.std.proofs.lemmas.Bool.{ltb-true}
+use Rattle.iso_lexer.specs.declared.limits.TheConstants.{MOST_ENTRIES, MOST_SESSIONS, MOST_STEPS}
 use Rattle.iso_lexer.specs.declared.token.At.{At}
 use Rattle.iso_lexer.specs.declared.spec_token.Keyword.TheVariants.{Permutation, Session, Setup, Step, Teardown}
 use Rattle.iso_lexer.specs.SpecTokens.{SpecToken}
@@ -55,8 +56,8 @@ was_in {A} G p local r after x e =
 
 -- no more than the limits
 pub record Few (c : Counts) : Type 0 where
-  pub sessions : c.sessions ≤ 64
-  pub steps : c.steps ≤ 1000
+  pub sessions : c.sessions ≤ MOST_SESSIONS
+  pub steps : c.steps ≤ MOST_STEPS
 
 abbrev pub Keeps : {A : Type 0} → (Rest → Read A) → Type 0
 Keeps {A} p = (r after : Rest) (x : A) → p r ≡ (Ok x, after) → Few r.0 → Few after.0
@@ -98,12 +99,12 @@ word_keeps_steps : (c d : Counts) (ts : List (At SpecToken)) (u : Unit {0}) → 
 word_keeps_steps c d ts u h e = omega (arith, ap (λ (d : Counts). d.steps) e, (session_word c ts u h).steps)
 
 -- one more than before, where there were fewer
-step_before : (r after : Rest) (s : StepOf NameAt) → step_at r ≡ (Ok s, after) → r.0.steps < 1000
+step_before : (r after : Rest) (s : StepOf NameAt) → step_at r ≡ (Ok s, after) → r.0.steps < MOST_STEPS
 unfolding step_at
 step_before r after s e =
     let key = in_two (word_at Step what.Item r) _ s after e in
-    let n = in_two (name_within r.0.steps 1000 key.1) _ s after key.3 in
-    within_is r.0.steps 1000 key.1 n.1 n.0 n.2
+    let n = in_two (name_within r.0.steps MOST_STEPS key.1) _ s after key.3 in
+    within_is r.0.steps MOST_STEPS key.1 n.1 n.0 n.2
 
 pub step_keeps : (k : ℕ) → Keeps step_at
 step_keeps k r after s e few =
@@ -178,29 +179,29 @@ pub session_keeps : (k : ℕ) → Keeps session_at
 unfolding session_at
 session_keeps k r after s e few =
     let key = in_two (word_at Session what.Item r) _ s after e in
-    let n = in_two (name_within r.0.sessions 64 key.1) _ s after key.3 in
-    let lt = within_is r.0.sessions 64 key.1 n.1 n.0 n.2 in
+    let n = in_two (name_within r.0.sessions MOST_SESSIONS key.1) _ s after key.3 in
+    let lt = within_is r.0.sessions MOST_SESSIONS key.1 n.1 n.0 n.2 in
     let w = was_in (one (a_word Session)) (word_at Session what.Item) (word_read Session what.Item) r key.1 key.0 key.2 in
     let m = session_word r.0 w.0 key.0 w.2 in
     let few1 : Few key.1.0 = record { sessions = omega (arith, lt, m.sessions, ap (λ (c : Counts). c.sessions) w.1); steps = omega (arith, few.steps, m.steps, ap (λ (c : Counts). c.steps) w.1) } in
-    session_end_keeps n.0 n.1 after s n.3 (name_keeps r.0.sessions 64 key.1 n.1 n.0 n.2 few1)
+    session_end_keeps n.0 n.1 after s n.3 (name_keeps r.0.sessions MOST_SESSIONS key.1 n.1 n.0 n.2 few1)
 
 pub sessions_keep : Keeps sessions_at
 sessions_keep = some_keep what.Session (starts_word Session) (λ k. session_at) session_keeps
 
 -- ---- permutations
 
-pub entry_before : (k : ℕ) (r after : Rest) (e : NamedEntry) → entry_at k r ≡ (Ok e, after) → k < 1000
+pub entry_before : (k : ℕ) (r after : Rest) (e : NamedEntry) → entry_at k r ≡ (Ok e, after) → k < MOST_ENTRIES
 unfolding entry_at
-entry_before k r after x e = let n = in_two (name_within k 1000 r) _ x after e in within_is k 1000 r n.1 n.0 n.2
+entry_before k r after x e = let n = in_two (name_within k MOST_ENTRIES r) _ x after e in within_is k MOST_ENTRIES r n.1 n.0 n.2
 
-entries_case : (n k : ℕ) (r after : Rest) (es : List NamedEntry) → ((m : Rest) (ys : List NamedEntry) → many_at starts_name entry_at (k + 1) n m ≡ (Ok ys, after) → k + 1 ≤ 1000 → (k + 1) + length ys ≤ 1000) → k ≤ 1000 → Steps starts_name entry_at n k r after es → k + length es ≤ 1000
+entries_case : (n k : ℕ) (r after : Rest) (es : List NamedEntry) → ((m : Rest) (ys : List NamedEntry) → many_at starts_name entry_at (k + 1) n m ≡ (Ok ys, after) → k + 1 ≤ MOST_ENTRIES → (k + 1) + length ys ≤ MOST_ENTRIES) → k ≤ MOST_ENTRIES → Steps starts_name entry_at n k r after es → k + length es ≤ MOST_ENTRIES
 entries_case n k r after es later le (inl (is, _)) = omega (arith, le, ap (λ (l : List NamedEntry). length l) is)
 entries_case n k r after es later le (inr (x, others, mid, is, one, rest)) =
     let lt = entry_before k r mid x one in
     omega (arith, later mid others rest (omega (arith, lt)), ap (λ (l : List NamedEntry). length l) is)
 
-entries_few : (n k : ℕ) (r after : Rest) (es : List NamedEntry) → many_at starts_name entry_at k n r ≡ (Ok es, after) → k ≤ 1000 → k + length es ≤ 1000
+entries_few : (n k : ℕ) (r after : Rest) (es : List NamedEntry) → many_at starts_name entry_at k n r ≡ (Ok es, after) → k ≤ MOST_ENTRIES → k + length es ≤ MOST_ENTRIES
 entries_few zero k r after es e le = omega (arith, le, ap (λ (l : List NamedEntry). length l) (none_at starts_name entry_at k r after es e).0)
 entries_few (suc n) k r after es e le = entries_case n k r after es (λ m ys h f. entries_few n (k + 1) m after ys h f) le (steps starts_name entry_at n k r after es e)
 

@@ -1,6 +1,7 @@
 -- Where reading stops at what is left out, the next token is the word `notices`.
 use Rattle.std.proofs.Common.{◌≡◌, ◌⊎◌, inl, inr, length, ℕ, zero, suc, Bool, true, false, cond, List, [], ◌∷◌, Option, Some, None, Result, Ok, Err, refl, sym, ap, ◌∙◌, ◌+◌}
 use Rattle.std.specs.Prelude.{nat_lt, unwrap_or}
+use Rattle.iso_lexer.specs.declared.limits.TheConstants.{MOST_ENTRIES, MOST_SESSIONS, MOST_STEPS}
 use Rattle.iso_lexer.specs.declared.token.At.{At}
 use Rattle.iso_lexer.specs.declared.spec_token.Keyword.{Keyword}
 use Rattle.iso_lexer.specs.declared.spec_token.Keyword.TheVariants.{Permutation, Session, Setup, Step, Teardown, Notices}
@@ -135,8 +136,8 @@ step_of n b = record { name = n; part = b }
 
 step_ends : Ends step_at
 unfolding step_at
-step_ends r after e = ends_then (word_at Step what.Item) (λ key. name_within r.0.steps 1000 key.1 >>= λ n. block_next n.1 >>= λ b. (Ok (step_of n.0 b.0), b.1)) (word_ends Step what.Item)
-    (λ _. ends_then (name_within r.0.steps 1000) (λ n. block_next n.1 >>= λ b. (Ok (step_of n.0 b.0), b.1)) (name_within_ends r.0.steps 1000)
+step_ends r after e = ends_then (word_at Step what.Item) (λ key. name_within r.0.steps MOST_STEPS key.1 >>= λ n. block_next n.1 >>= λ b. (Ok (step_of n.0 b.0), b.1)) (word_ends Step what.Item)
+    (λ _. ends_then (name_within r.0.steps MOST_STEPS) (λ n. block_next n.1 >>= λ b. (Ok (step_of n.0 b.0), b.1)) (name_within_ends r.0.steps MOST_STEPS)
     (λ n. ends_then block_next (λ b. (Ok (step_of n b.0), b.1)) block_ends (λ b. gives_ends (step_of n b)))) r after e
 
 steps_end : Ends steps_at
@@ -147,8 +148,8 @@ session_of n setup ss teardown = record { name = n; setup = setup; steps = ss; t
 
 session_ends : Ends session_at
 unfolding session_at
-session_ends r after e = ends_then (word_at Session what.Item) (λ key. name_within r.0.sessions 64 key.1 >>= λ n. setup_at n.1 >>= λ setup. steps_at setup.1 >>= λ ss. teardown_at ss.1 >>= λ teardown. (Ok (session_of n.0 setup.0 ss.0 teardown.0), teardown.1)) (word_ends Session what.Item)
-    (λ _. ends_then (name_within r.0.sessions 64) (λ n. setup_at n.1 >>= λ setup. steps_at setup.1 >>= λ ss. teardown_at ss.1 >>= λ teardown. (Ok (session_of n.0 setup.0 ss.0 teardown.0), teardown.1)) (name_within_ends r.0.sessions 64)
+session_ends r after e = ends_then (word_at Session what.Item) (λ key. name_within r.0.sessions MOST_SESSIONS key.1 >>= λ n. setup_at n.1 >>= λ setup. steps_at setup.1 >>= λ ss. teardown_at ss.1 >>= λ teardown. (Ok (session_of n.0 setup.0 ss.0 teardown.0), teardown.1)) (word_ends Session what.Item)
+    (λ _. ends_then (name_within r.0.sessions MOST_SESSIONS) (λ n. setup_at n.1 >>= λ setup. steps_at setup.1 >>= λ ss. teardown_at ss.1 >>= λ teardown. (Ok (session_of n.0 setup.0 ss.0 teardown.0), teardown.1)) (name_within_ends r.0.sessions MOST_SESSIONS)
     (λ n. ends_then setup_at (λ setup. steps_at setup.1 >>= λ ss. teardown_at ss.1 >>= λ teardown. (Ok (session_of n setup.0 ss.0 teardown.0), teardown.1)) setup_ends
     (λ setup. ends_then steps_at (λ ss. teardown_at ss.1 >>= λ teardown. (Ok (session_of n setup ss.0 teardown.0), teardown.1)) steps_end
     (λ ss. ends_then teardown_at (λ teardown. (Ok (session_of n setup ss teardown.0), teardown.1)) teardown_ends (λ teardown. gives_ends (session_of n setup ss teardown)))))) r after e
@@ -193,7 +194,7 @@ entry_of n ms = record { name = n; markers = unwrap_or ms [] }
 
 entry_ends : (k : ℕ) → Ends (entry_at k)
 unfolding entry_at
-entry_ends k = ends_then (name_within k 1000) (λ n. some_markers_at n.1 >>= λ ms. (Ok (entry_of n.0 ms.0), ms.1)) (name_within_ends k 1000)
+entry_ends k = ends_then (name_within k MOST_ENTRIES) (λ n. some_markers_at n.1 >>= λ ms. (Ok (entry_of n.0 ms.0), ms.1)) (name_within_ends k MOST_ENTRIES)
     (λ n. ends_then some_markers_at (λ ms. (Ok (entry_of n ms.0), ms.1)) some_markers_end (λ ms. gives_ends (entry_of n ms)))
 
 entries_end : Ends entries_at

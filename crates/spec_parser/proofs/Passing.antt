@@ -2,6 +2,7 @@
 use Rattle.std.proofs.Common.{◌≡◌, ℕ, zero, suc, ◌+◌, Bool, true, false, cond, List, [], ◌∷◌, ◌++◌, length, append_assoc, Option, Some, None, Result, Ok, Err, refl, subst}
 use Rattle.std.specs.Prelude.{nat_le}
 use Rattle.std.specs.Option.{option_map_or}
+use Rattle.iso_lexer.specs.declared.limits.TheConstants.{MOST_ENTRIES, MOST_SESSIONS, MOST_STEPS}
 use Rattle.iso_lexer.specs.declared.token.At.{At}
 use Rattle.iso_lexer.specs.declared.spec_token.Keyword.{Keyword}
 use Rattle.iso_lexer.specs.declared.spec_token.Keyword.TheVariants.{Permutation, Session, Setup, Step, Teardown, Notices}
@@ -83,7 +84,7 @@ step_of n b = record { name = n; part = b }
 
 step_passes : (last : ℕ) → Passes (step_at last)
 unfolding step_at
-step_passes last r = then (one_token last the_name what.Name >>= at_most 1000 (count (the_word Step) r.0)) (λ n. spec_block last >>= λ b. gives (step_of n b)) (within_passes last 1000 (count (the_word Step) r.0))
+step_passes last r = then (one_token last the_name what.Name >>= at_most MOST_STEPS (count (the_word Step) r.0)) (λ n. spec_block last >>= λ b. gives (step_of n b)) (within_passes last MOST_STEPS (count (the_word Step) r.0))
     (λ n. then (spec_block last) (λ b. gives (step_of n b)) (block_passes last) (λ b. gives_passes (step_of n b))) r
 
 abbrev session_of : NameAt → Option PartTree → List (StepOf NameAt) → Option PartTree → SessionOf NameAt
@@ -96,7 +97,7 @@ session_passes last r =
     let fourth : NameAt → Option PartTree → List (StepOf NameAt) → SpecReader (SessionOf NameAt) = λ n setup ss. maybe_block last Teardown >>= λ teardown. gives (session_of n setup ss teardown) in
     let third : NameAt → Option PartTree → SpecReader (SessionOf NameAt) = λ n setup. steps >>= fourth n setup in
     let second : NameAt → SpecReader (SessionOf NameAt) = λ n. maybe_block last Setup >>= third n in
-    then (one_token last the_name what.Name >>= at_most 64 (count (the_word Session) r.0)) second (within_passes last 64 (count (the_word Session) r.0))
+    then (one_token last the_name what.Name >>= at_most MOST_SESSIONS (count (the_word Session) r.0)) second (within_passes last MOST_SESSIONS (count (the_word Session) r.0))
     (λ n. then (maybe_block last Setup) (third n) (maybe_passes last Setup)
     (λ setup. then steps (fourth n setup) (all_pass (the_word Step) (λ k at. step_at last) (λ k at. step_passes last) (expected last what.Step) (λ r. tt))
     (λ ss. then (maybe_block last Teardown) (λ teardown. gives (session_of n setup ss teardown)) (maybe_passes last Teardown) (λ teardown. gives_passes (session_of n setup ss teardown))))) r
@@ -125,7 +126,7 @@ entry_passes : (last k : ℕ) (n : NameAt) → Passes (entry_at last k n)
 unfolding entry_at
 entry_passes last k n =
     let markers = if_next (the_sign Open) (λ at. markers_at last) (gives []) in
-    then (at_most 1000 k n) (λ n. markers >>= λ ms. gives (entry_of n ms)) (most_passes 1000 k n)
+    then (at_most MOST_ENTRIES k n) (λ n. markers >>= λ ms. gives (entry_of n ms)) (most_passes MOST_ENTRIES k n)
     (λ n. then markers (λ ms. gives (entry_of n ms)) (next_passes (the_sign Open) (λ at. markers_at last) (gives []) (λ at. markers_pass last) (λ r. refl)) (λ ms. gives_passes (entry_of n ms)))
 
 abbrev file_of : List PartTree → Option PartTree → List (SessionOf NameAt) → List (List NamedEntry) → FileTree

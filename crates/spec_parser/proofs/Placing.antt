@@ -5,6 +5,7 @@ use Rattle.std.specs.List.{enumerate_from}
 use Rattle.std.proofs.Math.Seq.{take-append_seam}
 use Rattle.std.proofs.lemmas.List.Sums.{sum_by-cons}
 use Rattle.std.specs.Option.{option_map_or}
+use Rattle.iso_lexer.specs.declared.limits.TheConstants.{MOST_ENTRIES, MOST_SESSIONS, MOST_STEPS}
 use Rattle.iso_lexer.specs.declared.token.At.{At}
 use Rattle.iso_lexer.specs.declared.token.Span.{Span}
 use Rattle.iso_lexer.specs.declared.spec_token.Keyword.{Keyword}
@@ -276,11 +277,11 @@ step_of n b = record { name = n; part = b }
 
 -- what is read behind the word of a step, and of a session
 abbrev behind_step : ℕ → StoppingReader (StepOf NameAt)
-behind_step before m = and_then (name_within before 1000 m) (λ n. and_then (block_next n.1) (λ b. (Ok (step_of n.0 b.0), b.1)))
+behind_step before m = and_then (name_within before MOST_STEPS m) (λ n. and_then (block_next n.1) (λ b. (Ok (step_of n.0 b.0), b.1)))
 
 step_body : (last before : ℕ) (m : Rest) → count (the_word Step) m.0 ≡ before + 1 → Sees last (new.step_at last m) (behind_step before (seen m))
 unfolding new.step_at
-step_body last before m is = then last (one_token last the_name what.Name >>= at_most 1000 (count (the_word Step) m.0)) (name_within before 1000) _ (λ n. spec_block last >>= λ b. gives (step_of n b)) (within_same last (count (the_word Step) m.0) before 1000 is)
+step_body last before m is = then last (one_token last the_name what.Name >>= at_most MOST_STEPS (count (the_word Step) m.0)) (name_within before MOST_STEPS) _ (λ n. spec_block last >>= λ b. gives (step_of n b)) (within_same last (count (the_word Step) m.0) before MOST_STEPS is)
     (λ n l. then last (spec_block last) block_next _ (λ b. gives (step_of n b)) (block_same last) (λ b o. refl) l) m
 
 step_at_token : (last : ℕ) (b : List (At SpecToken)) (tok : SpecToken) (span : Span) (ts : List (At SpecToken)) → Begins last (the_word Step) (starts (is_keyword Step)) (λ at. new.step_at last) step_at (b, record { tok = tok; span = span } ∷ ts)
@@ -300,7 +301,7 @@ abbrev session_of : NameAt → Option PartTree → List (StepOf NameAt) → Opti
 session_of n setup ss teardown = record { name = n; setup = setup; steps = ss; teardown = teardown }
 
 abbrev behind_session : ℕ → StoppingReader (SessionOf NameAt)
-behind_session before m = and_then (name_within before 64 m) (λ n. and_then (maybe_block Setup n.1) (λ setup. and_then (some_at what.Step (starts (is_keyword Step)) (λ k. step_at) setup.1)
+behind_session before m = and_then (name_within before MOST_SESSIONS m) (λ n. and_then (maybe_block Setup n.1) (λ setup. and_then (some_at what.Step (starts (is_keyword Step)) (λ k. step_at) setup.1)
     (λ ss. and_then (maybe_block Teardown ss.1) (λ teardown. (Ok (session_of n.0 setup.0 ss.0 teardown.0), teardown.1)))))
 
 session_body : (last before : ℕ) (m : Rest) → count (the_word Session) m.0 ≡ before + 1 → Sees last (new.session_at last m) (behind_session before (seen m))
@@ -310,7 +311,7 @@ session_body last before m is =
     let fourth : NameAt → Option PartTree → List (StepOf NameAt) → SpecReader (SessionOf NameAt) = λ n setup ss. new.maybe_block last Teardown >>= λ teardown. gives (session_of n setup ss teardown) in
     let third : NameAt → Option PartTree → SpecReader (SessionOf NameAt) = λ n setup. steps >>= fourth n setup in
     let second : NameAt → SpecReader (SessionOf NameAt) = λ n. new.maybe_block last Setup >>= third n in
-    then last (one_token last the_name what.Name >>= at_most 64 (count (the_word Session) m.0)) (name_within before 64) _ second (within_same last (count (the_word Session) m.0) before 64 is)
+    then last (one_token last the_name what.Name >>= at_most MOST_SESSIONS (count (the_word Session) m.0)) (name_within before MOST_SESSIONS) _ second (within_same last (count (the_word Session) m.0) before MOST_SESSIONS is)
     (λ n. then last (new.maybe_block last Setup) (maybe_block Setup) _ (third n) (maybe_block_same last Setup)
     (λ setup. then last steps (some_at what.Step (starts (is_keyword Step)) (λ k. step_at)) _ (fourth n setup) (some_same last (the_word Step) (starts (is_keyword Step)) (λ k at. new.step_at last) (λ k. step_at) (λ k. step_begins last) what.Step)
     (λ ss. then last (new.maybe_block last Teardown) (maybe_block Teardown) _ (λ teardown. gives (session_of n setup ss teardown)) (maybe_block_same last Teardown) (λ teardown o. refl)))) m
@@ -396,7 +397,7 @@ entry_at_token last k b (name w) span ts =
     let t : At SpecToken = record { tok = name w; span = span } in
     let n : NameAt = record { name = w; at = span.start } in
     yes n (b ++ t ∷ [], ts) refl refl
-    (seq last (at_most 1000 (k + 1) n (b ++ t ∷ [], ts)) (name_within k 1000 (seen (b, t ∷ ts))) (λ x. entry_read x.0 x.1) (entry_told last) (within_at last k (k + 1) 1000 (nat_lt k 1000) refl (next_number (k + 1) k 1000 refl) b (name w) span ts)
+    (seq last (at_most MOST_ENTRIES (k + 1) n (b ++ t ∷ [], ts)) (name_within k MOST_ENTRIES (seen (b, t ∷ ts))) (λ x. entry_read x.0 x.1) (entry_told last) (within_at last k (k + 1) MOST_ENTRIES (nat_lt k MOST_ENTRIES) refl (next_number (k + 1) k MOST_ENTRIES refl) b (name w) span ts)
     (λ n m. maybe_by last n m (markers_begin last m)))
 entry_at_token last k b _ span ts = no refl refl
 

@@ -3,6 +3,7 @@ use Rattle.std.proofs.Common.{◌≡◌, ◌<◌, length, ℕ, true, List, [], �
 use Rattle.std.proofs.lemmas.List.{append-nil}
 use Rattle.std.specs.Prelude.{unwrap_or, nat_lt}
 use denote.Enum.Bare.{true_same}
+use Rattle.iso_lexer.specs.declared.limits.TheConstants.{MOST_ENTRIES, MOST_SESSIONS, MOST_STEPS}
 use Rattle.iso_lexer.specs.declared.token.At.{At}
 use Rattle.iso_lexer.specs.declared.spec_token.Keyword.{Keyword}
 use Rattle.iso_lexer.specs.declared.spec_token.Keyword.TheVariants.{Permutation, Session, Setup, Step, Teardown, Notices}
@@ -130,8 +131,8 @@ step_end_local n = then {G = one a_block} {H = λ b. gives (step_of n b)} block_
 step_local : LocalFrom (starts_word Step) step step_at
 unfolding step_at
 step_local = then_from {G = one (a_word Step)} {H = λ _. one a_name ▸ λ n. one a_block ▸ λ b. gives (step_of n b)} (starts_word Step) (word_at Step what.Item)
-    (λ d key. name_within d.steps 1000 key.1 >>= λ n. block_next n.1 >>= λ b. (Ok (step_of n.0 b.0), b.1)) (word_local Step what.Item) (λ _. after_step_inhabited)
-    (λ d _. then {G = one a_name} {H = λ n. one a_block ▸ λ b. gives (step_of n b)} (name_within d.steps 1000) (λ n. block_next n.1 >>= λ b. (Ok (step_of n.0 b.0), b.1)) (name_within_local d.steps 1000) step_end_inhabited step_end_local)
+    (λ d key. name_within d.steps MOST_STEPS key.1 >>= λ n. block_next n.1 >>= λ b. (Ok (step_of n.0 b.0), b.1)) (word_local Step what.Item) (λ _. after_step_inhabited)
+    (λ d _. then {G = one a_name} {H = λ n. one a_block ▸ λ b. gives (step_of n b)} (name_within d.steps MOST_STEPS) (λ n. block_next n.1 >>= λ b. (Ok (step_of n.0 b.0), b.1)) (name_within_local d.steps MOST_STEPS) step_end_inhabited step_end_local)
 
 pub step_read : LocalRead step step_at
 unfolding step_at next_token
@@ -181,8 +182,8 @@ set_up_local n = then {G = Maybe (block_behind Setup)} {H = Stepped n} setup_at 
 session_local : LocalFrom (starts_word Session) session session_at
 unfolding session_at
 session_local = then_from {G = one (a_word Session)} {H = λ _. one a_name ▸ SetUp} (starts_word Session) (word_at Session what.Item)
-    (λ d key. name_within d.sessions 64 key.1 >>= λ n. setup_at n.1 >>= λ setup. steps_at setup.1 >>= λ steps. teardown_at steps.1 >>= λ teardown. (Ok (session_of n.0 setup.0 steps.0 teardown.0), teardown.1)) (word_local Session what.Item) (λ _. named_inhabited)
-    (λ d _. then {G = one a_name} {H = SetUp} (name_within d.sessions 64) (λ n. setup_at n.1 >>= λ setup. steps_at setup.1 >>= λ steps. teardown_at steps.1 >>= λ teardown. (Ok (session_of n.0 setup.0 steps.0 teardown.0), teardown.1)) (name_within_local d.sessions 64) set_up_inhabited set_up_local)
+    (λ d key. name_within d.sessions MOST_SESSIONS key.1 >>= λ n. setup_at n.1 >>= λ setup. steps_at setup.1 >>= λ steps. teardown_at steps.1 >>= λ teardown. (Ok (session_of n.0 setup.0 steps.0 teardown.0), teardown.1)) (word_local Session what.Item) (λ _. named_inhabited)
+    (λ d _. then {G = one a_name} {H = SetUp} (name_within d.sessions MOST_SESSIONS) (λ n. setup_at n.1 >>= λ setup. steps_at setup.1 >>= λ steps. teardown_at steps.1 >>= λ teardown. (Ok (session_of n.0 setup.0 steps.0 teardown.0), teardown.1)) (name_within_local d.sessions MOST_SESSIONS) set_up_inhabited set_up_local)
 
 pub session_read : LocalRead session session_at
 unfolding session_at next_token
@@ -276,7 +277,7 @@ entry_begins = seq_begins what.Name (one a_name) (λ n. Maybe markers ▸ λ ms.
 
 pub entry_local : (k : ℕ) → AreLocal entry (entry_at k)
 unfolding entry_at
-entry_local k = then {G = one a_name} {H = λ n. Maybe markers ▸ λ ms. gives (entry_of n ms)} (name_within k 1000) (λ n. some_markers_at n.1 >>= λ ms. (Ok (entry_of n.0 ms.0), ms.1)) (name_within_local k 1000) after_entry_inhabited
+entry_local k = then {G = one a_name} {H = λ n. Maybe markers ▸ λ ms. gives (entry_of n ms)} (name_within k MOST_ENTRIES) (λ n. some_markers_at n.1 >>= λ ms. (Ok (entry_of n.0 ms.0), ms.1)) (name_within_local k MOST_ENTRIES) after_entry_inhabited
     (λ n. then {G = Maybe markers} {H = λ ms. gives (entry_of n ms)} some_markers_at (λ ms. (Ok (entry_of n ms.0), ms.1)) some_markers_local (λ ms. gives_inhabited (entry_of n ms)) (λ ms. gives_local (entry_of n ms)))
 
 pub entries_local : AreLocal (some entry) entries_at

@@ -3,6 +3,7 @@ use Rattle.std.proofs.Common.{◌≡◌, ◌≤◌, ◌+◌, ◌⊎◌, inl, inr
 use Rattle.std.specs.Prelude.{nat_lt, unwrap_or}
 use Rattle.std.specs.List.{AllByRecursion}
 use Rattle.std.proofs.lemmas.Bool.{ltb-false}
+use Rattle.iso_lexer.specs.declared.limits.TheConstants.{MOST_ENTRIES, MOST_SESSIONS, MOST_STEPS}
 use Rattle.iso_lexer.specs.declared.token.At.{At}
 use Rattle.iso_lexer.specs.declared.spec_token.Keyword.{Keyword}
 use Rattle.iso_lexer.specs.declared.spec_token.Keyword.TheVariants.{Permutation, Session, Setup, Step, Teardown}
@@ -28,10 +29,10 @@ use Rattle.spec_parser.proofs.NeverAtLimit.{Never, not_expected, err_two, never_
 -- ---- what is over, from here on
 
 pub data LimitHere (r after : Rest) : Type 0 where
-  here_session : (t : At SpecToken) → r.1 ≡ t ∷ after.1 → IsWord Session t → 64 ≤ r.0.sessions → LimitHere r after
-  here_step : (t : At SpecToken) → r.1 ≡ t ∷ after.1 → IsWord Step t → 1000 ≤ r.0.steps → LimitHere r after
+  here_session : (t : At SpecToken) → r.1 ≡ t ∷ after.1 → IsWord Session t → MOST_SESSIONS ≤ r.0.sessions → LimitHere r after
+  here_step : (t : At SpecToken) → r.1 ≡ t ∷ after.1 → IsWord Step t → MOST_STEPS ≤ r.0.steps → LimitHere r after
   here_entry : (ps : List (At SpecToken)) (t : At SpecToken) (es : List (At SpecToken)) (perms : List (List NamedEntry)) (entries : List NamedEntry) → r.1 ≡ ps ++ t ∷ (es ++ after.1) → Many perm r.0 ps perms → AllByRecursion IsShort perms
-      → IsWord Permutation t → Many entry (past r.0 (ps ++ t ∷ [])) es entries → length entries ≡ 1000 → LimitHere r after
+      → IsWord Permutation t → Many entry (past r.0 (ps ++ t ∷ [])) es entries → length entries ≡ MOST_ENTRIES → LimitHere r after
 
 -- these tokens, and then what is over
 pub record LimitLater (r after : Rest) : Type 0 where
@@ -122,17 +123,17 @@ word_token k w r mid u e =
 
 -- the word was read, and then the name is over, or what is behind it is
 step_name : (r mid after : Rest) (u : Unit {0}) (f : NameAt × Rest → Read (StepOf NameAt)) → Few r.0 → word_at Step what.Item r ≡ (Ok u, mid) → ((n : NameAt) → Never (λ m. f (n, m)))
-    → (name_within r.0.steps 1000 mid ≡ (Err OverLimit, after)) ⊎ ((n : NameAt) × (m : Rest) × (name_within r.0.steps 1000 mid ≡ (Ok n, m)) × (f (n, m) ≡ (Err OverLimit, after))) → LimitLater r after
+    → (name_within r.0.steps MOST_STEPS mid ≡ (Err OverLimit, after)) ⊎ ((n : NameAt) × (m : Rest) × (name_within r.0.steps MOST_STEPS mid ≡ (Ok n, m)) × (f (n, m) ≡ (Err OverLimit, after))) → LimitLater r after
 step_name r mid after u f few word never (inl e) =
-    let o = name_over r.0.steps 1000 mid after e in
+    let o = name_over r.0.steps MOST_STEPS mid after e in
     let t = word_token Step what.Item r mid u word in
     record { fs = []; mid = r; split = refl; place = refl; few = few; is_named = subst (λ (m : Rest). starts_name m ≡ true) o.2 o.1; here = here_step t.0 (t.1 ∙ ap (λ (m : Rest). t.0 ∷ m.1) o.2) t.2 o.0 }
 step_name r mid after u f few word never (inr (n, m, is, e)) = absurd (never n m after e)
 
-step_case : (r after : Rest) (f : Unit {0} × Rest → Read (StepOf NameAt)) (g : NameAt × Rest → Read (StepOf NameAt)) → Few r.0 → ((u : Unit {0}) (m : Rest) → f (u, m) ≡ (name_within r.0.steps 1000 m >>= g)) → ((n : NameAt) → Never (λ m. g (n, m)))
+step_case : (r after : Rest) (f : Unit {0} × Rest → Read (StepOf NameAt)) (g : NameAt × Rest → Read (StepOf NameAt)) → Few r.0 → ((u : Unit {0}) (m : Rest) → f (u, m) ≡ (name_within r.0.steps MOST_STEPS m >>= g)) → ((n : NameAt) → Never (λ m. g (n, m)))
     → (word_at Step what.Item r ≡ (Err OverLimit, after)) ⊎ ((u : Unit {0}) × (mid : Rest) × (word_at Step what.Item r ≡ (Ok u, mid)) × (f (u, mid) ≡ (Err OverLimit, after))) → LimitLater r after
 step_case r after f g few is never (inl e) = absurd (word_never Step what.Item r after e)
-step_case r after f g few is never (inr (u, mid, word, e)) = step_name r mid after u g few word never (err_two (name_within r.0.steps 1000 mid) g OverLimit after (sym (is u mid) ∙ e))
+step_case r after f g few is never (inr (u, mid, word, e)) = step_name r mid after u g few word never (err_two (name_within r.0.steps MOST_STEPS mid) g OverLimit after (sym (is u mid) ∙ e))
 
 abbrev step_of : NameAt → PartTree → StepOf NameAt
 step_of n b = record { name = n; part = b }
@@ -140,9 +141,9 @@ step_of n b = record { name = n; part = b }
 step_stops : Stops step_at
 unfolding step_at
 step_stops r after few e =
-    step_case r after (λ key. name_within r.0.steps 1000 key.1 >>= λ n. block_next n.1 >>= λ b. (Ok (step_of n.0 b.0), b.1)) (λ n. block_next n.1 >>= λ b. (Ok (step_of n.0 b.0), b.1)) few (λ u m. refl)
+    step_case r after (λ key. name_within r.0.steps MOST_STEPS key.1 >>= λ n. block_next n.1 >>= λ b. (Ok (step_of n.0 b.0), b.1)) (λ n. block_next n.1 >>= λ b. (Ok (step_of n.0 b.0), b.1)) few (λ u m. refl)
     (λ n. never_then block_next (λ b. (Ok (step_of n b.0), b.1)) block_never (λ b. gives_never (step_of n b)))
-    (err_two (word_at Step what.Item r) (λ key. name_within r.0.steps 1000 key.1 >>= λ n. block_next n.1 >>= λ b. (Ok (step_of n.0 b.0), b.1)) OverLimit after e)
+    (err_two (word_at Step what.Item r) (λ key. name_within r.0.steps MOST_STEPS key.1 >>= λ n. block_next n.1 >>= λ b. (Ok (step_of n.0 b.0), b.1)) OverLimit after e)
 
 steps_stop : Stops steps_at
 steps_stop = some_stop step_grammar what.Step (starts_word Step) (λ k. step_at) (λ k. step_read) step_keeps (λ k. step_stops)
@@ -161,27 +162,27 @@ session_end_stops n = stops_then (Maybe (block_behind Setup)) setup_at (λ setup
     (λ ss. never_stops (λ r. teardown_at r >>= λ teardown. (Ok (session_of n setup ss teardown.0), teardown.1)) (never_then teardown_at (λ teardown. (Ok (session_of n setup ss teardown.0), teardown.1)) teardown_never (λ teardown. gives_never (session_of n setup ss teardown)))))
 
 session_name : (r mid after : Rest) (u : Unit {0}) → Few r.0 → word_at Session what.Item r ≡ (Ok u, mid)
-    → (name_within r.0.sessions 64 mid ≡ (Err OverLimit, after)) ⊎ ((n : NameAt) × (m : Rest) × (name_within r.0.sessions 64 mid ≡ (Ok n, m)) × (session_end (n, m) ≡ (Err OverLimit, after))) → LimitLater r after
+    → (name_within r.0.sessions MOST_SESSIONS mid ≡ (Err OverLimit, after)) ⊎ ((n : NameAt) × (m : Rest) × (name_within r.0.sessions MOST_SESSIONS mid ≡ (Ok n, m)) × (session_end (n, m) ≡ (Err OverLimit, after))) → LimitLater r after
 session_name r mid after u few word (inl e) =
-    let o = name_over r.0.sessions 64 mid after e in
+    let o = name_over r.0.sessions MOST_SESSIONS mid after e in
     let t = word_token Session what.Item r mid u word in
     record { fs = []; mid = r; split = refl; place = refl; few = few; is_named = subst (λ (m : Rest). starts_name m ≡ true) o.2 o.1; here = here_session t.0 (t.1 ∙ ap (λ (m : Rest). t.0 ∷ m.1) o.2) t.2 o.0 }
 session_name r mid after u few word (inr (n, m, is, e)) =
     let w = was_front (one (a_word Session)) (word_at Session what.Item) (word_read Session what.Item) r mid u word in
-    let v = was_front (one a_name) (name_within r.0.sessions 64) (local_read (name_within_local r.0.sessions 64)) mid m n is in
-    let lt = within_is r.0.sessions 64 mid m n is in
+    let v = was_front (one a_name) (name_within r.0.sessions MOST_SESSIONS) (local_read (name_within_local r.0.sessions MOST_SESSIONS)) mid m n is in
+    let lt = within_is r.0.sessions MOST_SESSIONS mid m n is in
     let c = session_word r.0 w.0 u w.3 in
     let few1 : Few mid.0 = record { sessions = omega (arith, lt, c.sessions, ap (λ (c : Counts). c.sessions) w.2); steps = omega (arith, few.steps, c.steps, ap (λ (c : Counts). c.steps) w.2) } in
-    behind r mid after w.0 w.1 w.2 (behind mid m after v.0 v.1 v.2 (session_end_stops n m after (name_keeps r.0.sessions 64 mid m n is few1) e))
+    behind r mid after w.0 w.1 w.2 (behind mid m after v.0 v.1 v.2 (session_end_stops n m after (name_keeps r.0.sessions MOST_SESSIONS mid m n is few1) e))
 
 session_case : (r after : Rest) → Few r.0
-    → (word_at Session what.Item r ≡ (Err OverLimit, after)) ⊎ ((u : Unit {0}) × (mid : Rest) × (word_at Session what.Item r ≡ (Ok u, mid)) × ((name_within r.0.sessions 64 mid >>= session_end) ≡ (Err OverLimit, after))) → LimitLater r after
+    → (word_at Session what.Item r ≡ (Err OverLimit, after)) ⊎ ((u : Unit {0}) × (mid : Rest) × (word_at Session what.Item r ≡ (Ok u, mid)) × ((name_within r.0.sessions MOST_SESSIONS mid >>= session_end) ≡ (Err OverLimit, after))) → LimitLater r after
 session_case r after few (inl e) = absurd (word_never Session what.Item r after e)
-session_case r after few (inr (u, mid, word, e)) = session_name r mid after u few word (err_two (name_within r.0.sessions 64 mid) session_end OverLimit after e)
+session_case r after few (inr (u, mid, word, e)) = session_name r mid after u few word (err_two (name_within r.0.sessions MOST_SESSIONS mid) session_end OverLimit after e)
 
 session_stops : Stops session_at
 unfolding session_at
-session_stops r after few e = session_case r after few (err_two (word_at Session what.Item r) (λ key. name_within r.0.sessions 64 key.1 >>= session_end) OverLimit after e)
+session_stops r after few e = session_case r after few (err_two (word_at Session what.Item r) (λ key. name_within r.0.sessions MOST_SESSIONS key.1 >>= session_end) OverLimit after e)
 
 sessions_stop : Stops sessions_at
 sessions_stop = some_stop session_grammar what.Session (starts_word Session) (λ k. session_at) (λ k. session_read) session_keeps (λ k. session_stops)
@@ -191,23 +192,23 @@ sessions_stop = some_stop session_grammar what.Session (starts_word Session) (λ
 abbrev entry_of : NameAt → Option (List MarkerTree) → NamedEntry
 entry_of n ms = record { name = n; markers = unwrap_or ms [] }
 
-entry_case : (k : ℕ) (r after : Rest) → (name_within k 1000 r ≡ (Err OverLimit, after)) ⊎ ((n : NameAt) × (m : Rest) × (name_within k 1000 r ≡ (Ok n, m)) × ((some_markers_at m >>= λ ms. (Ok (entry_of n ms.0), ms.1)) ≡ (Err OverLimit, after))) → NameOver k 1000 r after
-entry_case k r after (inl e) = name_over k 1000 r after e
+entry_case : (k : ℕ) (r after : Rest) → (name_within k MOST_ENTRIES r ≡ (Err OverLimit, after)) ⊎ ((n : NameAt) × (m : Rest) × (name_within k MOST_ENTRIES r ≡ (Ok n, m)) × ((some_markers_at m >>= λ ms. (Ok (entry_of n ms.0), ms.1)) ≡ (Err OverLimit, after))) → NameOver k MOST_ENTRIES r after
+entry_case k r after (inl e) = name_over k MOST_ENTRIES r after e
 entry_case k r after (inr (n, m, is, e)) = absurd (never_then some_markers_at (λ ms. (Ok (entry_of n ms.0), ms.1)) some_markers_never (λ ms. gives_never (entry_of n ms)) m after e)
 
-entry_over : (k : ℕ) (r after : Rest) → entry_at k r ≡ (Err OverLimit, after) → NameOver k 1000 r after
+entry_over : (k : ℕ) (r after : Rest) → entry_at k r ≡ (Err OverLimit, after) → NameOver k MOST_ENTRIES r after
 unfolding entry_at
-entry_over k r after e = entry_case k r after (err_two (name_within k 1000 r) (λ n. some_markers_at n.1 >>= λ ms. (Ok (entry_of n.0 ms.0), ms.1)) OverLimit after e)
+entry_over k r after e = entry_case k r after (err_two (name_within k MOST_ENTRIES r) (λ n. some_markers_at n.1 >>= λ ms. (Ok (entry_of n.0 ms.0), ms.1)) OverLimit after e)
 
 record EntriesOver (k : ℕ) (r after : Rest) : Type 0 where
   es : List (At SpecToken)
   entries : List NamedEntry
   split : r.1 ≡ es ++ after.1
   many : Many entry r.0 es entries
-  count : k + length entries ≡ 1000
+  count : k + length entries ≡ MOST_ENTRIES
   is_named : starts_name after ≡ true
 
-entries_case : (n k : ℕ) (r after : Rest) → k ≤ 1000 → ((m : Rest) → k + 1 ≤ 1000 → many_at starts_name entry_at (k + 1) n m ≡ (Err OverLimit, after) → EntriesOver (k + 1) m after) → Stopped starts_name entry_at n k r after OverLimit → EntriesOver k r after
+entries_case : (n k : ℕ) (r after : Rest) → k ≤ MOST_ENTRIES → ((m : Rest) → k + 1 ≤ MOST_ENTRIES → many_at starts_name entry_at (k + 1) n m ≡ (Err OverLimit, after) → EntriesOver (k + 1) m after) → Stopped starts_name entry_at n k r after OverLimit → EntriesOver k r after
 entries_case n k r after le later (inl e) =
     let o = entry_over k r after e in
     record { es = []; entries = []; split = ap (λ (m : Rest). m.1) o.2; many = none; count = omega (arith, le, o.0); is_named = subst (λ (m : Rest). starts_name m ≡ true) o.2 o.1 }
@@ -224,7 +225,7 @@ entries_case n k r after le later (inr (x, mid, is, e)) =
       is_named = o.is_named;
     }
 
-entries_over : (n k : ℕ) (r after : Rest) → k ≤ 1000 → many_at starts_name entry_at k n r ≡ (Err OverLimit, after) → EntriesOver k r after
+entries_over : (n k : ℕ) (r after : Rest) → k ≤ MOST_ENTRIES → many_at starts_name entry_at k n r ≡ (Err OverLimit, after) → EntriesOver k r after
 entries_over zero k r after le e = absurd (many_zero starts_name entry_at k OverLimit r after e)
 entries_over (suc n) k r after le e = entries_case n k r after le (λ m l h. entries_over n (k + 1) m after l h) (stopped starts_name entry_at n k r after OverLimit e)
 
@@ -239,7 +240,7 @@ record PermsOver (r after : Rest) : Type 0 where
   short : AllByRecursion IsShort perms
   is_keyword : IsWord Permutation word
   among : Many entry (past r.0 (ps ++ word ∷ [])) es entries
-  count : length entries ≡ 1000
+  count : length entries ≡ MOST_ENTRIES
   is_named : starts_name after ≡ true
 
 perm_case : (r after : Rest) → (word_at Permutation what.Item r ≡ (Err OverLimit, after)) ⊎ ((u : Unit {0}) × (mid : Rest) × (word_at Permutation what.Item r ≡ (Ok u, mid)) × (some_at what.Name starts_name entry_at mid ≡ (Err OverLimit, after))) → PermsOver r after

@@ -1,6 +1,7 @@
 -- What a spec file says (README of src/test/isolation, "Test specification"): the grammar, the limits, and what names stand for.
 use Rattle.std.specs.Prelude.{◌≡◌, ◌≢◌, ◌≤◌, ℕ, List, length, map, All, AllPairs, Contains, Ok}
 use Rattle.std.specs.List.{AllZip}
+use Rattle.iso_lexer.specs.declared.limits.TheConstants.{MOST_ENTRIES, MOST_SESSIONS, MOST_STEPS}
 use Rattle.iso_lexer.specs.declared.token.At.{At}
 use Rattle.iso_lexer.specs.Names.{decoded}
 use Rattle.iso_lexer.specs.SpecTokens.{SpecToken}
@@ -16,12 +17,12 @@ use Rattle.spec_parser.specs.Names.{StepAt, steps_of, session_tree}
 
 -- a permutation of at most 1,000 entries
 abbrev pub IsShort : List NamedEntry → Type 0
-IsShort entries = length entries ≤ 1000
+IsShort entries = length entries ≤ MOST_ENTRIES
 
 -- at most 64 sessions, 1,000 steps in all, and 1,000 entries a permutation; own
 pub record WithinLimits (f : FileTree) : Type 0 where
-  pub sessions : length f.sessions ≤ 64
-  pub steps : length (steps_of f) ≤ 1000
+  pub sessions : length f.sessions ≤ MOST_SESSIONS
+  pub steps : length (steps_of f) ≤ MOST_STEPS
   pub entries : All IsShort f.perms
 
 -- ---- names

@@ -2,6 +2,7 @@
 use Rattle.std.specs.Prelude.{ℕ, zero, suc, ◌+◌, nat_le, List, [], ◌∷◌, ◌++◌, length, count_by, is_some, Option, Some, None, Ok, Err, if◌then◌else◌}
 use Rattle.std.specs.Option.{option_map_or}
 use denote.Enum.Bare.{sameb}
+use Rattle.iso_lexer.specs.declared.limits.TheConstants.{MOST_ENTRIES, MOST_SESSIONS, MOST_STEPS}
 use Rattle.iso_lexer.specs.declared.token.At.{At}
 use Rattle.iso_lexer.specs.declared.spec_token.Keyword.{Keyword}
 use Rattle.iso_lexer.specs.declared.spec_token.Keyword.TheVariants.{Permutation, Session, Setup, Step, Teardown, Notices}
@@ -85,12 +86,12 @@ module _ (last : ℕ) where
 
   -- behind "step": name block; a file has at most 1,000
   unfoldable pub step_at : SpecReader (StepOf NameAt)
-  step_at r = (do gives (record { name = (← one_token the_name what.Name >>= at_most 1000 (count (the_word Step) r.0)); part = (← spec_block) })) r
+  step_at r = (do gives (record { name = (← one_token the_name what.Name >>= at_most MOST_STEPS (count (the_word Step) r.0)); part = (← spec_block) })) r
 
   -- behind "session": name ["setup" block] step+ ["teardown" block]; a file has at most 64
   unfoldable pub session_at : SpecReader (SessionOf NameAt)
   session_at r = (do
-    n ← one_token the_name what.Name >>= at_most 64 (count (the_word Session) r.0)
+    n ← one_token the_name what.Name >>= at_most MOST_SESSIONS (count (the_word Session) r.0)
     setup ← maybe_block Setup
     steps ← many_of (the_word Step) (λ k at. step_at) (expected what.Step)
     gives (record { name = n; setup = setup; steps = steps; teardown = (← maybe_block Teardown) })) r
@@ -110,7 +111,7 @@ module _ (last : ℕ) where
 
   -- behind the name of entry k: [markers]; a permutation has at most 1,000
   unfoldable pub entry_at : ℕ → NameAt → SpecReader NamedEntry
-  entry_at k n = do gives (record { name = (← at_most 1000 k n); markers = (← if_next (the_sign Open) (λ at. markers_at) (gives [])) })
+  entry_at k n = do gives (record { name = (← at_most MOST_ENTRIES k n); markers = (← if_next (the_sign Open) (λ at. markers_at) (gives [])) })
 
   -- {"setup" block} ["teardown" block] session+ {"permutation" entry+}, and nothing else
   unfoldable pub file_at : SpecReader FileTree

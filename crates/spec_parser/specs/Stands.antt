@@ -1,6 +1,7 @@
 -- To be believed. What holds of every spec: numbers, counts and places.
 use Rattle.std.specs.Prelude.{◌≡◌, ◌≤◌, ◌<◌, ◌+◌, ◌-◌, ℕ, List, ◌∷◌, ◌++◌, length, map, All, slice_index_or, flat_map, option_to_list, slice_range}
 use Rattle.std.specs.List.{range_with_len}
+use Rattle.iso_lexer.specs.declared.limits.TheConstants.{MOST_ENTRIES, MOST_SESSIONS, MOST_STEPS}
 use Rattle.iso_lexer.specs.SpecSpelling.{NameSpells}
 use Rattle.spec_parser.specs.declared.tree.Marker.{Marker}
 use Rattle.spec_parser.specs.declared.tree.Marker.TheVariants as markers
@@ -26,7 +27,7 @@ pub record EntryStands (sessions : List SessionTree) (e : EntryTree) : Type 0 wh
 -- a permutation of 1 to 1,000 entries, each of a step that is there
 pub record PermStands (sessions : List SessionTree) (p : List EntryTree) : Type 0 where
   pub some : 0 < length p
-  pub few : length p ≤ 1000
+  pub few : length p ≤ MOST_ENTRIES
   pub each : All (EntryStands sessions) p
 
 -- ---- blocks
@@ -60,9 +61,9 @@ pub record NameLies (text : List ℕ) (n : NameAt) : Type 0 where
 
 pub record Stands (s : SpecTree) : Type 0 where
   pub some_sessions : 0 < length s.sessions
-  pub few_sessions : length s.sessions ≤ 64
+  pub few_sessions : length s.sessions ≤ MOST_SESSIONS
   pub some_steps : All (λ x. 0 < length x.steps) s.sessions
-  pub few_steps : length (flat_map (λ (x : SessionTree). x.steps) s.sessions) ≤ 1000
+  pub few_steps : length (flat_map (λ (x : SessionTree). x.steps) s.sessions) ≤ MOST_STEPS
   pub perms : All (PermStands s.sessions) s.perms
   -- the blocks have the numbers from 0, in file order
   pub numbered : map (λ (p : PartTree). p.block) (parts_of s) ≡ range_with_len 0 (length (parts_of s))

@@ -3,10 +3,8 @@
 use crate::draft::{EntryName, MarkerName, PlacedName};
 use crate::fault::{Halt, Stop, What};
 use crate::reader::Reader;
-use iso_lexer::{Keyword, Sign};
+use iso_lexer::{Keyword, MOST_ENTRIES, Sign};
 use std::alloc::Global;
-
-const MOST_ENTRIES: usize = 1000;
 
 impl<'t, 'a> Reader<'t, 'a> {
     ghost use Rattle.std.specs.Prelude.{◌≢◌, Err, option_map, map};

@@ -4,12 +4,8 @@ use crate::draft::{PlacedName, SessionDraft, StepDraft};
 use crate::fault::{Halt, Stop, What};
 use crate::reader::Reader;
 use crate::tree::Part;
-use iso_lexer::Keyword;
+use iso_lexer::{Keyword, MOST_SESSIONS, MOST_STEPS};
 use std::alloc::Global;
-
-const MOST_SESSIONS: usize = 64;
-
-const MOST_STEPS: usize = 1000;
 
 impl<'t, 'a> Reader<'t, 'a> {
     ghost use Rattle.std.specs.Prelude.{◌≢◌, ◌<◌, ◌^◌, Err, IfOk, vec_len, option_map, map};

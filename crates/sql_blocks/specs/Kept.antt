@@ -1,6 +1,7 @@
 -- What a block keeps of its statements.
 use Rattle.std.specs.Prelude.{ℕ, suc, ◌^◌, max, nat_lt, ◌==◌, Bool, true, false, not, ◌&&◌, List, [], ◌∷◌, length, map, get_or, bytes_eq, Option, Some, None, option_map}
 use Rattle.std.specs.List.{list_any, list_all}
+use Rattle.iso_lexer.specs.declared.limits.TheConstants.{MAX_DEPTH}
 use Rattle.sql_trees.specs.Trees.{Tree, Trees, none, more, Plus, Minus, Not, Binary, Is, In, Between, CountRows, Of}
 use Rattle.sql_trees.specs.Statements.{StmtTree, Create, DropTables, Inserts, Updates, Deletes, Selects, CreateTree, InsertTree, UpdateTree, SelectTree}
 use Rattle.sql_trees.specs.Statements.{KeyTree, ItemTree, All, Value, Aggregate, key_name}
@@ -26,7 +27,7 @@ abbrev mutual
   trees_depth (more e es) = max (tree_depth e) (trees_depth es)
 
 abbrev pub is_shallow : Tree → Bool
-is_shallow e = nat_lt (tree_depth e) 65
+is_shallow e = nat_lt (tree_depth e) (suc MAX_DEPTH)
 
 abbrev pub maybe_shallow : Option Tree → Bool
 maybe_shallow None = true

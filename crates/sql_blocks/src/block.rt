@@ -2,6 +2,7 @@
 
 ghost use Rattle.std.specs.List.{list_all};
 ghost use Rattle.std.specs.Prelude.{◌≡◌, ◌↔◌, true, ◌≤◌, IsTrue, length, map, vec_len};
+ghost use Rattle.iso_lexer.specs.declared.limits.TheConstants.{MAX_STMTS};
 ghost use Rattle.sql_trees.specs.Statements.{stmt_of};
 ghost use Rattle.sql_blocks.specs.Kept.{is_kept_in};
 
@@ -16,9 +17,6 @@ pub enum Role {
     /// Makes and drops no table.
     Session,
 }
-
-/// The greatest number of statements of a block.
-pub const MAX_STMTS: usize = 256;
 
 /// The statements of a block of SQL text.
 #[derive(Drop)]
@@ -43,13 +41,13 @@ impl<'a> Model for Block<'a> {
 
     ghost view = { λ b. record { role = b.role; stmts = b.stmts.items } };
 
-    ghost invariant = { λ b. (vec_len b.stmts ≤ 256) × (list_all (is_kept_in b.role) (map stmt_of b.stmts.items) ≡ true) };
+    ghost invariant = { λ b. (vec_len b.stmts ≤ MAX_STMTS) × (list_all (is_kept_in b.role) (map stmt_of b.stmts.items) ≡ true) };
 }
 
 impl<'a> Block<'a> {
     /// The block of these statements, which stands here. `parse_block` makes blocks by it, from the text that they stand in.
     pub fn new(role: Role, stmts: Vec<Stmt<'a>>) -> Block<'a>
-        requires few { vec_len stmts ≤ 256 }
+        requires few { vec_len stmts ≤ MAX_STMTS }
         requires kept { list_all (is_kept_in role) (map stmt_of stmts.items) ≡ true }
         ensures role { result.role ≡ role }
         ensures stmts { result.stmts ≡ stmts.entry.items }
@@ -67,7 +65,7 @@ impl<'a> Block<'a> {
     /// The statements.
     pub fn stmts(&self) -> &[Stmt<'a>]
         ensures lends { result.now ≡ self.now.stmts }
-        ensures few { length result.now ≤ 256 }
+        ensures few { length result.now ≤ MAX_STMTS }
         ensures kept { list_all (is_kept_in self.now.role) (map stmt_of result.now) ≡ true }
     {
         &self.stmts

@@ -14,5 +14,6 @@
 mod block;
 mod same;
 
-pub use block::{Block, MAX_STMTS, Role};
+pub use block::{Block, Role};
+pub use iso_lexer::MAX_STMTS;
 pub use same::same_blocks;

@@ -1,6 +1,7 @@
 -- The chains of operators.
 use Rattle.std.proofs.Common.{◌≡◌, ℕ, zero, suc, ◌+◌, ◌<◌, ◌≤◌, Option, Some, None, refl, sym, ap, ◌∙◌, length, List, [], ◌∷◌, ◌++◌, arith, rules, Bool, true, false, ◌-◌}
 use Rattle.std.specs.Prelude.{IfOk, Result, Ok, Err, max, nat_lt, if◌then◌else◌}
+use Rattle.iso_lexer.specs.declared.limits.TheConstants.{MAX_DEPTH}
 use Rattle.iso_lexer.specs.declared.sql_token.SqlSign.TheVariants as signs
 use Rattle.sql_expressions.specs.declared.level.Chain.{Chain}
 use Rattle.sql_expressions.specs.declared.level.Chain.TheVariants.{Or, And, Concat, Sum, Product}
@@ -32,7 +33,7 @@ rank_of Product = 4
 -- what has been read so far, with enough turns for the depths that are left, gives what the whole chain gives
 pub record Goes (operand : Reader) (op_of : Token → Option Operator) (a : Found) (whole : Result Found SqlFault) : Type 0 where
   pub turns : ℕ
-  pub enough : 64 ≤ turns + a.depth
+  pub enough : MAX_DEPTH ≤ turns + a.depth
   pub same : chain_more operand op_of turns a ≡ whole
 
 -- the same for a list
@@ -46,16 +47,16 @@ pub passed_on : {X Y : Type 0} (e : SqlFault) (part : Result X SqlFault) (whole 
 passed_on Memory part whole h k = tt
 passed_on (f) part whole h k = k f h
 
-too_deep : (place d : ℕ) → 64 ≤ d → deeper place d ≡ Err (TooDeep place)
-too_deep place d h = let e : nat_lt d 64 ≡ false = search rules in rw e refl
+too_deep : (place d : ℕ) → MAX_DEPTH ≤ d → deeper place d ≡ Err (TooDeep place)
+too_deep place d h = let e : nat_lt d MAX_DEPTH ≡ false = search rules in rw e refl
 
-refused : (place d : ℕ) (f : SqlFault) → 64 ≤ d → deeper place d ≡ Err f → TooDeep place ≡ f
+refused : (place d : ℕ) (f : SqlFault) → MAX_DEPTH ≤ d → deeper place d ≡ Err f → TooDeep place ≡ f
 refused place d f l h = let p = sym (too_deep place d l) ∙ h in cc
 
 module _ (operand : Reader) (op_of : Token → Option Operator) where
   pub starts : (ts : Tokens) (a : Found) → operand ts ≡ Ok a → Goes operand op_of a (chain operand op_of ts)
   unfolding chain
-  starts ts a e = record { turns = 64; enough = omega arith; same = rw e refl }
+  starts ts a e = record { turns = MAX_DEPTH; enough = omega arith; same = rw e refl }
 
   pub starts_not : (ts : Tokens) (f : SqlFault) → operand ts ≡ Err f → chain operand op_of ts ≡ Err f
   unfolding chain
@@ -73,7 +74,7 @@ module _ (operand : Reader) (op_of : Token → Option Operator) where
   unfolding chain_more
   no_room a o w f g e h = go g.turns g.enough g.same
     where
-      go : (n : ℕ) → 64 ≤ n + a.depth → chain_more operand op_of n a ≡ w → w ≡ Err f
+      go : (n : ℕ) → MAX_DEPTH ≤ n + a.depth → chain_more operand op_of n a ≡ w → w ≡ Err f
       go zero l s = sym s ∙ rw e (ap Err (refused o.place a.depth f (omega arith) h))
       go (suc n) l s = sym s ∙ rw (e, h) refl
 
@@ -81,7 +82,7 @@ module _ (operand : Reader) (op_of : Token → Option Operator) where
   unfolding chain_more
   no_operand a o w d f g e h k = go g.turns g.enough g.same
     where
-      go : (n : ℕ) → 64 ≤ n + a.depth → chain_more operand op_of n a ≡ w → w ≡ Err f
+      go : (n : ℕ) → MAX_DEPTH ≤ n + a.depth → chain_more operand op_of n a ≡ w → w ≡ Err f
       go zero l s = absurd (let p = sym (too_deep o.place a.depth (omega arith)) ∙ h in cc)
       go (suc n) l s = sym s ∙ rw (e, h, k) refl
 
@@ -89,7 +90,7 @@ module _ (operand : Reader) (op_of : Token → Option Operator) where
   unfolding chain_more
   no_node a b o w d f g e h k j = go g.turns g.enough g.same
     where
-      go : (n : ℕ) → 64 ≤ n + a.depth → chain_more operand op_of n a ≡ w → w ≡ Err f
+      go : (n : ℕ) → MAX_DEPTH ≤ n + a.depth → chain_more operand op_of n a ≡ w → w ≡ Err f
       go zero l s = absurd (let p = sym (too_deep o.place a.depth (omega arith)) ∙ h in cc)
       go (suc n) l s = sym s ∙ rw (e, h, k, j) refl
 
@@ -97,7 +98,7 @@ module _ (operand : Reader) (op_of : Token → Option Operator) where
   unfolding chain_more
   goes_on a b c o w d g e h k j up = go g.turns g.enough g.same
     where
-      go : (n : ℕ) → 64 ≤ n + a.depth → chain_more operand op_of n a ≡ w → Goes operand op_of c w
+      go : (n : ℕ) → MAX_DEPTH ≤ n + a.depth → chain_more operand op_of n a ≡ w → Goes operand op_of c w
       go zero l s = absurd (let p = sym (too_deep o.place a.depth (omega arith)) ∙ h in cc)
       go (suc n) l s = record { turns = n; enough = omega arith; same = sym (rw (e, h, k, j) refl) ∙ s }
 

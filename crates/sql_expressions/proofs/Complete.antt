@@ -1,6 +1,7 @@
 -- What is in the grammar is read, where what stands behind it doesn't go on with it.
 use Rattle.std.proofs.Common.{◌≡◌, ℕ, zero, suc, ◌+◌, ◌<◌, ◌≤◌, Bool, true, false, not, ◌||◌, List, [], ◌∷◌, ◌++◌, length, Option, Some, None, refl, sym, ap, ◌∙◌, subst, arith, rules, append_assoc, length-append}
 use Rattle.std.specs.Prelude.{Ok, max, nat_lt, is_some}
+use Rattle.iso_lexer.specs.declared.limits.TheConstants.{MAX_DEPTH}
 use Rattle.sql_expressions.specs.declared.level.Opened.TheVariants.{Whole}
 use Rattle.iso_lexer.specs.declared.token.At.{At}
 use Rattle.sql_trees.specs.Words.{is_reserved}
@@ -115,26 +116,26 @@ pub chain_ends : (l : Level) (rest : Tokens) → IsChain l → Stops l rest → 
 chain_ends l [] c s = refl
 chain_ends l (t ∷ ts) c s = rw (none_of (operator_at l t.tok) (own_stops l t.tok c s)) refl
 
-deeper_at : (p d : ℕ) → d < 64 → deeper p d ≡ Ok (d + 1)
-deeper_at p d h = let e : nat_lt d 64 ≡ true = search rules in rw e refl
+deeper_at : (p d : ℕ) → d < MAX_DEPTH → deeper p d ≡ Ok (d + 1)
+deeper_at p d h = let e : nat_lt d MAX_DEPTH ≡ true = search rules in rw e refl
 
 -- the chain comes to this part of it, and goes on behind it
 record Comes (operand : Reader) (op_of : Token → Option Operator) (ts : Tokens) (f : Found) : Type 0 where
   turns : ℕ
-  enough : 64 ≤ turns + f.depth
+  enough : MAX_DEPTH ≤ turns + f.depth
   same : reading.chain operand op_of ts ≡ chain_more operand op_of turns f
 
 comes_first : (operand : Reader) (op_of : Token → Option Operator) (ts : Tokens) (f : Found) → operand ts ≡ Ok f → Comes operand op_of ts f
 unfolding reading.chain
-comes_first operand op_of ts f e = record { turns = 64; enough = omega arith; same = rw e refl }
+comes_first operand op_of ts f e = record { turns = MAX_DEPTH; enough = omega arith; same = rw e refl }
 
 comes_on : (operand : Reader) (op_of : Token → Option Operator) (ts bs rest : Tokens) (t : At Token) (o : Operator) (a b : Tree) (c d : ℕ) →
-    Comes operand op_of ts (record { tree = a; depth = c; rest = t ∷ bs }) → op_of t.tok ≡ Some o → operand bs ≡ Ok (record { tree = b; depth = d; rest = rest }) → max c d < 64 →
+    Comes operand op_of ts (record { tree = a; depth = c; rest = t ∷ bs }) → op_of t.tok ≡ Some o → operand bs ≡ Ok (record { tree = b; depth = d; rest = rest }) → max c d < MAX_DEPTH →
     Comes operand op_of ts (record { tree = Binary o a b; depth = max c d + 1; rest = rest })
 unfolding chain_more
 comes_on operand op_of ts bs rest t o a b c d k h e l = go k.turns k.enough k.same
   where
-    go : (n : ℕ) → 64 ≤ n + c → reading.chain operand op_of ts ≡ chain_more operand op_of n (record { tree = a; depth = c; rest = t ∷ bs }) → Comes operand op_of ts (record { tree = Binary o a b; depth = max c d + 1; rest = rest })
+    go : (n : ℕ) → MAX_DEPTH ≤ n + c → reading.chain operand op_of ts ≡ chain_more operand op_of n (record { tree = a; depth = c; rest = t ∷ bs }) → Comes operand op_of ts (record { tree = Binary o a b; depth = max c d + 1; rest = rest })
     go zero m s = absurd (omega arith)
     go (suc n) m s = record {
       turns = n;
@@ -314,12 +315,12 @@ module _ (last : ℕ) where
   claim_only n UNA ts e d r k = λ rest s. ap (λ us. una_at last (inside last n) (us ++ rest)) k.2 ∙ una_first n k.0 (k.1 ++ rest) k.3 ∙ ap (λ us. prim_at last (inside last n) (us ++ rest)) (sym k.2) ∙ r rest s
   claim_only n PRIM ts e d r k = r
 
-  chain_claim : (n : ℕ) (l : Level) (fs bs : Tokens) (t : At Token) (o : Operator) (a b : Tree) (c d : ℕ) → Chains n l fs a c → operator_at l t.tok ≡ Some o → Reads n (tighter l) bs b d → max c d < 64 → Chains n l (fs ++ t ∷ bs) (Binary o a b) (max c d + 1)
+  chain_claim : (n : ℕ) (l : Level) (fs bs : Tokens) (t : At Token) (o : Operator) (a b : Tree) (c d : ℕ) → Chains n l fs a c → operator_at l t.tok ≡ Some o → Reads n (tighter l) bs b d → max c d < MAX_DEPTH → Chains n l (fs ++ t ∷ bs) (Binary o a b) (max c d + 1)
   chain_claim n l fs bs t o a b c d k h q lt = λ rest s.
       subst (λ r. Comes (read_of n (tighter l)) (operator_at l) r (made (Binary o a b) (max c d + 1) rest)) (sym (append_assoc fs (t ∷ bs) rest))
       (comes_on (read_of n (tighter l)) (operator_at l) (fs ++ (t ∷ (bs ++ rest))) (bs ++ rest) rest t o a b c d (k (t ∷ (bs ++ rest)) (op_stops l t.tok o h)) h (q rest s) lt)
 
-  claim_chain : (n : ℕ) (l : Level) (fs bs : Tokens) (t : At Token) (o : Operator) (a b : Tree) (c d : ℕ) → Claim n l fs a c → operator_at l t.tok ≡ Some o → Reads n (tighter l) bs b d → max c d < 64 → Claim n l (fs ++ t ∷ bs) (Binary o a b) (max c d + 1)
+  claim_chain : (n : ℕ) (l : Level) (fs bs : Tokens) (t : At Token) (o : Operator) (a b : Tree) (c d : ℕ) → Claim n l fs a c → operator_at l t.tok ≡ Some o → Reads n (tighter l) bs b d → max c d < MAX_DEPTH → Claim n l (fs ++ t ∷ bs) (Binary o a b) (max c d + 1)
   claim_chain n OR fs bs t o a b c d k h q lt = chain_claim n OR fs bs t o a b c d k h q lt
   claim_chain n AND fs bs t o a b c d k h q lt = chain_claim n AND fs bs t o a b c d k h q lt
   claim_chain n CAT fs bs t o a b c d k h q lt = chain_claim n CAT fs bs t o a b c d k h q lt
@@ -327,19 +328,19 @@ module _ (last : ℕ) where
   claim_chain n MUL fs bs t o a b c d k h q lt = chain_claim n MUL fs bs t o a b c d k h q lt
   claim_chain n _ fs bs t o a b c d k h q lt = absurd cc
 
-  claim_parens : (n : ℕ) (ts : Tokens) (t u : At Token) (e : Tree) (d : ℕ) → t.tok ≡ tok.sign signs.Open → Reads n OR ts e d → u.tok ≡ tok.sign signs.Close → d < 64 → Reads (suc n) PRIM (t ∷ (ts ++ u ∷ [])) e (d + 1)
+  claim_parens : (n : ℕ) (ts : Tokens) (t u : At Token) (e : Tree) (d : ℕ) → t.tok ≡ tok.sign signs.Open → Reads n OR ts e d → u.tok ≡ tok.sign signs.Close → d < MAX_DEPTH → Reads (suc n) PRIM (t ∷ (ts ++ u ∷ [])) e (d + 1)
   unfolding parens_at inside
   claim_parens n ts t u e d h r g lt = λ rest s. rw (h, append_assoc ts (u ∷ []) rest, r (u ∷ rest) (rw g refl), deeper_at t.span.start d lt, g) refl
 
-  claim_minus : (n : ℕ) (ts : Tokens) (t : At Token) (e : Tree) (d : ℕ) → t.tok ≡ tok.sign signs.Minus → Reads n UNA ts e d → d < 64 → Reads (suc n) UNA (t ∷ ts) (negated e) (d + 1)
+  claim_minus : (n : ℕ) (ts : Tokens) (t : At Token) (e : Tree) (d : ℕ) → t.tok ≡ tok.sign signs.Minus → Reads n UNA ts e d → d < MAX_DEPTH → Reads (suc n) UNA (t ∷ ts) (negated e) (d + 1)
   unfolding sign_at inside
   claim_minus n ts t e d h r lt = λ rest s. rw (h, r rest s, deeper_at t.span.start d lt) refl
 
-  claim_plus : (n : ℕ) (ts : Tokens) (t : At Token) (e : Tree) (d : ℕ) → t.tok ≡ tok.sign signs.Plus → Reads n UNA ts e d → d < 64 → Reads (suc n) UNA (t ∷ ts) (Plus e) (d + 1)
+  claim_plus : (n : ℕ) (ts : Tokens) (t : At Token) (e : Tree) (d : ℕ) → t.tok ≡ tok.sign signs.Plus → Reads n UNA ts e d → d < MAX_DEPTH → Reads (suc n) UNA (t ∷ ts) (Plus e) (d + 1)
   unfolding sign_at inside
   claim_plus n ts t e d h r lt = λ rest s. rw (h, r rest s, deeper_at t.span.start d lt) refl
 
-  claim_not : (n : ℕ) (ts : Tokens) (t : At Token) (e : Tree) (d : ℕ) → IsWord words.Not t.tok → Reads n NOT ts e d → d < 64 → Reads (suc n) NOT (t ∷ ts) (Not e) (d + 1)
+  claim_not : (n : ℕ) (ts : Tokens) (t : At Token) (e : Tree) (d : ℕ) → IsWord words.Not t.tok → Reads n NOT ts e d → d < MAX_DEPTH → Reads (suc n) NOT (t ∷ ts) (Not e) (d + 1)
   unfolding negation_at inside
   claim_not n ts t e d h r lt = λ rest s. rw (h.1, r rest s, deeper_at t.span.start d lt) refl
 
@@ -352,7 +353,7 @@ module _ (last : ℕ) where
   comparison_stops (tok.sign signs.AtLeast) o e = refl
   comparison_stops _ o e = absurd cc
 
-  claim_comparison : (n : ℕ) (fs bs : Tokens) (t : At Token) (o : Operator) (a b : Tree) (c d : ℕ) → Reads n INN fs a c → comparison_op t.tok ≡ Some o → Reads n INN bs b d → max c d < 64 → Reads n CMP (fs ++ t ∷ bs) (Binary o a b) (max c d + 1)
+  claim_comparison : (n : ℕ) (fs bs : Tokens) (t : At Token) (o : Operator) (a b : Tree) (c d : ℕ) → Reads n INN fs a c → comparison_op t.tok ≡ Some o → Reads n INN bs b d → max c d < MAX_DEPTH → Reads n CMP (fs ++ t ∷ bs) (Binary o a b) (max c d + 1)
   unfolding cmp_at
   claim_comparison n fs bs t o a b c d r h q lt = λ rest s.
       rw (append_assoc fs (t ∷ bs) rest, r (t ∷ (bs ++ rest)) (comparison_stops t.tok o h), h, deeper_at t.span.start c (omega arith), q rest (stops_below CMP rest s), deeper_at t.span.start (max c d) lt) refl
@@ -383,21 +384,21 @@ module _ (last : ℕ) where
   truth_is_no_not (tok.word words.Not s) w e = absurd cc
   truth_is_no_not _ w e = refl
 
-  is_with : (n : ℕ) (ts : Tokens) (w t : At Token) (truth : Truth) (e : Tree) (d : ℕ) → Reads n CMP ts e d → IsWord words.Is w.tok → truth_of t.tok ≡ Some truth → d < 64 → Reads n IS (ts ++ w ∷ t ∷ []) (Is e false truth) (d + 1)
+  is_with : (n : ℕ) (ts : Tokens) (w t : At Token) (truth : Truth) (e : Tree) (d : ℕ) → Reads n CMP ts e d → IsWord words.Is w.tok → truth_of t.tok ≡ Some truth → d < MAX_DEPTH → Reads n IS (ts ++ w ∷ t ∷ []) (Is e false truth) (d + 1)
   unfolding is_at
   is_with n ts w t truth e d r g h lt = λ rest s.
       rw (append_assoc ts (w ∷ t ∷ []) rest, r (w ∷ t ∷ rest) (rw g.1 refl), g.1, deeper_at w.span.start d lt, truth_is_no_not t.tok truth h, h) refl
 
-  is_not_with : (n : ℕ) (ts : Tokens) (w v t : At Token) (truth : Truth) (e : Tree) (d : ℕ) → Reads n CMP ts e d → IsWord words.Is w.tok → IsWord words.Not v.tok → truth_of t.tok ≡ Some truth → d < 64 → Reads n IS (ts ++ w ∷ v ∷ t ∷ []) (Is e true truth) (d + 1)
+  is_not_with : (n : ℕ) (ts : Tokens) (w v t : At Token) (truth : Truth) (e : Tree) (d : ℕ) → Reads n CMP ts e d → IsWord words.Is w.tok → IsWord words.Not v.tok → truth_of t.tok ≡ Some truth → d < MAX_DEPTH → Reads n IS (ts ++ w ∷ v ∷ t ∷ []) (Is e true truth) (d + 1)
   unfolding is_at
   is_not_with n ts w v t truth e d r g k h lt = λ rest s.
       rw (append_assoc ts (w ∷ v ∷ t ∷ []) rest, r (w ∷ v ∷ t ∷ rest) (rw g.1 refl), g.1, deeper_at w.span.start d lt, k.1, h) refl
 
-  claim_is : (n : ℕ) (ts ws : Tokens) (t : At Token) (no' : Bool) (truth : Truth) (e : Tree) (d : ℕ) → Reads n CMP ts e d → IsIs no' ws → truth_of t.tok ≡ Some truth → d < 64 → Reads n IS (ts ++ (ws ++ t ∷ [])) (Is e no' truth) (d + 1)
+  claim_is : (n : ℕ) (ts ws : Tokens) (t : At Token) (no' : Bool) (truth : Truth) (e : Tree) (d : ℕ) → Reads n CMP ts e d → IsIs no' ws → truth_of t.tok ≡ Some truth → d < MAX_DEPTH → Reads n IS (ts ++ (ws ++ t ∷ [])) (Is e no' truth) (d + 1)
   claim_is n ts ws t false truth e d r i h lt = subst (λ x. Reads n IS (ts ++ (x ++ t ∷ [])) (Is e false truth) (d + 1)) (sym i.1) (is_with n ts i.0 t truth e d r i.2 h lt)
   claim_is n ts ws t true truth e d r i h lt = subst (λ x. Reads n IS (ts ++ (x ++ t ∷ [])) (Is e true truth) (d + 1)) (sym i.2) (is_not_with n ts i.0 i.1 t truth e d r i.3 i.4 h lt)
 
-  between_read : (n : ℕ) (no' : Bool) (place : ℕ) (us vs rest : Tokens) (t : At Token) (e low high : Tree) (b c d : ℕ) → Reads n CAT us low c → IsWord words.And t.tok → Reads n CAT vs high d → max b (max c d) < 64 → Stops INN rest →
+  between_read : (n : ℕ) (no' : Bool) (place : ℕ) (us vs rest : Tokens) (t : At Token) (e low high : Tree) (b c d : ℕ) → Reads n CAT us low c → IsWord words.And t.tok → Reads n CAT vs high d → max b (max c d) < MAX_DEPTH → Stops INN rest →
       between_at last (inside last n) no' place e b (us ++ (t ∷ (vs ++ rest))) ≡ Ok (made (Between e no' low high) (max b (max c d) + 1) rest)
   unfolding between_at
   between_read n no' place us vs rest t e low high b c d q h r lt s =
@@ -406,7 +407,7 @@ module _ (last : ℕ) where
   pub assoc_between : (ts ws us vs rest : Tokens) (t : At Token) → (ts ++ (ws ++ (us ++ t ∷ vs))) ++ rest ≡ ts ++ (ws ++ (us ++ (t ∷ (vs ++ rest))))
   assoc_between ts ws us vs rest t = append_assoc ts _ rest ∙ ap (λ x. ts ++ x) (append_assoc ws _ rest ∙ ap (λ x. ws ++ x) (append_assoc us (t ∷ vs) rest))
 
-  claim_between : (n : ℕ) (ts ws us vs : Tokens) (t : At Token) (no' : Bool) (e low high : Tree) (b c d : ℕ) → Reads n CAT ts e b → IsBetween no' ws → Reads n CAT us low c → IsWord words.And t.tok → Reads n CAT vs high d → max b (max c d) < 64 → Reads n INN (ts ++ (ws ++ (us ++ t ∷ vs))) (Between e no' low high) (max b (max c d) + 1)
+  claim_between : (n : ℕ) (ts ws us vs : Tokens) (t : At Token) (no' : Bool) (e low high : Tree) (b c d : ℕ) → Reads n CAT ts e b → IsBetween no' ws → Reads n CAT us low c → IsWord words.And t.tok → Reads n CAT vs high d → max b (max c d) < MAX_DEPTH → Reads n INN (ts ++ (ws ++ (us ++ t ∷ vs))) (Between e no' low high) (max b (max c d) + 1)
   unfolding inn_at
   claim_between n ts ws us vs t false e low high b c d p i q h r lt = λ rest s.
       rw (assoc_between ts ws us vs rest t, i.1, p (i.0 ∷ (us ++ (t ∷ (vs ++ rest)))) (rw i.2.1 refl), i.2.1) (between_read n false i.0.span.start us vs rest t e low high b c d q h r lt s)
@@ -442,7 +443,7 @@ module _ (last : ℕ) where
   list_end reader zero l e = refl
   list_end reader (suc m) l e = rw e refl
 
-  in_read : (n : ℕ) (no' : Bool) (place : ℕ) (us rest : Tokens) (t u : At Token) (e : Tree) (es : Trees) (c d : ℕ) → t.tok ≡ tok.sign signs.Open → Lists n us es d → u.tok ≡ tok.sign signs.Close → max c d < 64 →
+  in_read : (n : ℕ) (no' : Bool) (place : ℕ) (us rest : Tokens) (t u : At Token) (e : Tree) (es : Trees) (c d : ℕ) → t.tok ≡ tok.sign signs.Open → Lists n us es d → u.tok ≡ tok.sign signs.Close → max c d < MAX_DEPTH →
       in_at last (inside last (suc n)) no' place e c (t ∷ (us ++ (u ∷ rest))) ≡ Ok (made (In e no' es) (max c d + 1) rest)
   unfolding in_at
   in_read n no' place us rest t u e es c d h k g lt =
@@ -453,7 +454,7 @@ module _ (last : ℕ) where
   pub assoc_in : (ts ws us rest : Tokens) (t u : At Token) → (ts ++ (ws ++ t ∷ (us ++ u ∷ []))) ++ rest ≡ ts ++ (ws ++ (t ∷ (us ++ (u ∷ rest))))
   assoc_in ts ws us rest t u = append_assoc ts _ rest ∙ ap (λ x. ts ++ x) (append_assoc ws _ rest ∙ ap (λ x. ws ++ (t ∷ x)) (append_assoc us (u ∷ []) rest))
 
-  claim_in : (n : ℕ) (ts ws us : Tokens) (t u : At Token) (no' : Bool) (e : Tree) (es : Trees) (c d : ℕ) → Reads (suc n) CAT ts e c → IsIn no' ws → t.tok ≡ tok.sign signs.Open → Lists n us es d → u.tok ≡ tok.sign signs.Close → max c d < 64 → Reads (suc n) INN (ts ++ (ws ++ t ∷ (us ++ u ∷ []))) (In e no' es) (max c d + 1)
+  claim_in : (n : ℕ) (ts ws us : Tokens) (t u : At Token) (no' : Bool) (e : Tree) (es : Trees) (c d : ℕ) → Reads (suc n) CAT ts e c → IsIn no' ws → t.tok ≡ tok.sign signs.Open → Lists n us es d → u.tok ≡ tok.sign signs.Close → max c d < MAX_DEPTH → Reads (suc n) INN (ts ++ (ws ++ t ∷ (us ++ u ∷ []))) (In e no' es) (max c d + 1)
   unfolding inn_at
   claim_in n ts ws us t u false e es c d p i h k g lt = λ rest s.
       rw (assoc_in ts ws us rest t u, i.1, p (i.0 ∷ t ∷ (us ++ (u ∷ rest))) (rw i.2.1 refl), i.2.1) (in_read n false i.0.span.start us rest t u e es c d h k g lt)
@@ -501,5 +502,5 @@ module _ (last : ℕ) where
       of_tok (tok.sign _) h = absurd cc
 
   -- the whole of the tokens, and so whatever is in the grammar
-  pub expr_complete : {ts : Tokens} {e : Tree} {d : ℕ} → Spells 64 OR ts e d → (rest : Tokens) → Ends rest → expr_at last (ts ++ rest) ≡ Ok (record { tree = e; depth = d }, rest)
-  expr_complete {ts} {e} {d} p rest s = is_part (expr_at last (ts ++ rest)) (made e d rest) (expr_same last (ts ++ rest) ∙ reads 64 OR ts e d (complete p) rest (ends_stops rest s))
+  pub expr_complete : {ts : Tokens} {e : Tree} {d : ℕ} → Spells MAX_DEPTH OR ts e d → (rest : Tokens) → Ends rest → expr_at last (ts ++ rest) ≡ Ok (record { tree = e; depth = d }, rest)
+  expr_complete {ts} {e} {d} p rest s = is_part (expr_at last (ts ++ rest)) (made e d rest) (expr_same last (ts ++ rest) ∙ reads MAX_DEPTH OR ts e d (complete p) rest (ends_stops rest s))

@@ -1,6 +1,7 @@
 -- Where an expression is too deep, a token stands that makes a node.
 use Rattle.std.proofs.Common.{◌≡◌, ℕ, zero, suc, ◌+◌, Bool, true, false, List, [], ◌∷◌, ◌++◌, length, Option, Some, None, ◌⊎◌, inl, inr, refl, sym, ap, ◌∙◌, subst, append_assoc}
 use Rattle.std.specs.Prelude.{Result, Ok, Err, ok_or, max, nat_lt, if◌then◌else◌}
+use Rattle.iso_lexer.specs.declared.limits.TheConstants.{MAX_DEPTH}
 use Rattle.sql_trees.specs.declared.fault.SqlFault.{SqlFault}
 use Rattle.sql_trees.specs.declared.fault.SqlFault.TheVariants.{Syntax, LeftOut, TooDeep}
 use Rattle.sql_expressions.specs.declared.level.Opened.{Opened}
@@ -41,7 +42,7 @@ up : {A : Type 0} (M N : ℕ → Type 0) (r : Result A SqlFault) → ((q : ℕ) 
 up M N r f d = λ q h. f q (d q h)
 
 tested : (M : ℕ → Type 0) (place d : ℕ) → M place → Deep M (deeper place d)
-tested M place d m q h = of_test (nat_lt d 64) h
+tested M place d m q h = of_test (nat_lt d MAX_DEPTH) h
   where
     of_test : (b : Bool) → (let r : Result ℕ SqlFault = if b then Ok (d + 1) else Err (TooDeep place) in r ≡ Err (TooDeep q)) → M q
     of_test true g = absurd cc
@@ -147,7 +148,7 @@ module _ (operand : Reader) (op_of : Token → Option Operator) (goes : (t : Tok
 
   chain_tells : Tells (chain operand op_of)
   unfolding chain
-  chain_tells ts = next_in _ (operand ts) _ (tells ts) (λ a is. more_tells 64 ts a (took_end P ts a (sound ts a is)))
+  chain_tells ts = next_in _ (operand ts) _ (tells ts) (λ a is. more_tells MAX_DEPTH ts a (took_end P ts a (sound ts a is)))
 
 module _ (last n : ℕ) (inside' : Opened → ℕ → Reader) (opens : Opens last n inside') (deep : (level : Opened) (place : ℕ) (ts : Tokens) → Deep (λ q. (q ≡ place) ⊎ Makes q ts) (inside' level place ts)) where
   -- the token before these, or one of them
@@ -400,4 +401,4 @@ inside_tells last (suc n) level place ts = up _ _ (at_level last (inside last n)
 
 -- too deep is told at a token that makes a node
 pub expr_tells : (last place : ℕ) (ts : Tokens) → expr_at last ts ≡ Err (TooDeep place) → Makes place ts
-expr_tells last place ts e = or_tells last 64 (inside last 64) (opens_sound last 64) (inside_tells last 64) ts place (sym (expr_same last ts) ∙ ap seen e)
+expr_tells last place ts e = or_tells last MAX_DEPTH (inside last MAX_DEPTH) (opens_sound last MAX_DEPTH) (inside_tells last MAX_DEPTH) ts place (sym (expr_same last ts) ∙ ap seen e)

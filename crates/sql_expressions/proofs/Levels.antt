@@ -1,6 +1,7 @@
 -- Each level reads what the grammar has at it.
 use Rattle.std.proofs.Common.{◌≡◌, ℕ, zero, suc, ◌+◌, ◌<◌, Bool, true, false, List, [], ◌∷◌, ◌++◌, length, Option, Some, None, refl, sym, ap, ◌∙◌, subst, arith, append_assoc, length-append}
 use Rattle.std.specs.Prelude.{Result, Ok, Err, max, if◌then◌else◌}
+use Rattle.iso_lexer.specs.declared.limits.TheConstants.{MAX_DEPTH}
 use Rattle.sql_trees.specs.declared.fault.SqlFault.{SqlFault}
 use Rattle.sql_trees.specs.declared.fault.SqlFault.TheVariants.{LeftOut}
 use Rattle.sql_expressions.specs.declared.level.Opened.{Opened}
@@ -34,7 +35,7 @@ single P t ts e f h p =
     subst (Took P (t ∷ ts)) same (record { front = t ∷ []; whole = refl; some = omega arith; spells = p })
 
 -- a token, what an opening shows, and the node over it
-behind : (P Q : Tokens → Tree → ℕ → Type 0) (make : Tree → Tree) (t : At Token) (ts : Tokens) (e f : Found) (p d : ℕ) → Took P ts e → deeper p e.depth ≡ Ok d → (let r : Result Found SqlFault = Ok (record { tree = make e.tree; depth = d; rest = e.rest }) in r ≡ Ok f) → ((us : Tokens) (x : Tree) (c : ℕ) → P us x c → c < 64 → Q (t ∷ us) (make x) (c + 1)) → Took Q (t ∷ ts) f
+behind : (P Q : Tokens → Tree → ℕ → Type 0) (make : Tree → Tree) (t : At Token) (ts : Tokens) (e f : Found) (p d : ℕ) → Took P ts e → deeper p e.depth ≡ Ok d → (let r : Result Found SqlFault = Ok (record { tree = make e.tree; depth = d; rest = e.rest }) in r ≡ Ok f) → ((us : Tokens) (x : Tree) (c : ℕ) → P us x c → c < MAX_DEPTH → Q (t ∷ us) (make x) (c + 1)) → Took Q (t ∷ ts) f
 behind P Q make t ts e f p d k h g node =
     let s = deeper_ok p e.depth d h in
     let same : record { tree = make e.tree; depth = e.depth + 1; rest = e.rest } ≡ f = ap (λ x. record { tree = make e.tree; depth = x; rest = e.rest }) (sym s.1) ∙ cc in
@@ -100,7 +101,7 @@ module _ (last n : ℕ) (inside' : Opened → ℕ → Reader) where
     prim_sound [] f e = absurd cc
     prim_sound (t ∷ ts) f e = prim_of_sound t.tok t ts f refl e
 
-    sign_sound : (make : Tree → Tree) (t : At Token) (ts : Tokens) (f : Found) → ((m : ℕ) (us : Tokens) (x : Tree) (c : ℕ) → Spells m UNA us x c → c < 64 → Spells (suc m) UNA (t ∷ us) (make x) (c + 1)) → sign_at last inside' make t.span.start ts ≡ Ok f → Took (Spells n UNA) (t ∷ ts) f
+    sign_sound : (make : Tree → Tree) (t : At Token) (ts : Tokens) (f : Found) → ((m : ℕ) (us : Tokens) (x : Tree) (c : ℕ) → Spells m UNA us x c → c < MAX_DEPTH → Spells (suc m) UNA (t ∷ us) (make x) (c + 1)) → sign_at last inside' make t.span.start ts ≡ Ok f → Took (Spells n UNA) (t ∷ ts) f
     unfolding sign_at
     sign_sound make t ts f node e =
         let s1 = bind_ok (inside' Unary t.span.start ts) (λ e. deeper t.span.start e.depth >>= λ d. Ok (record { tree = make e.tree; depth = d; rest = e.rest })) f e in
@@ -222,7 +223,7 @@ module _ (last n : ℕ) (inside' : Opened → ℕ → Reader) where
             let s2 = bind_ok (inn_at last inside' o.rest) (λ b. join o a b) f s1.2 in
             joined_as (Spells n INN) (Spells n INN) (Spells n CMP) comparison_op (λ fs bs t o a b c d p h q l. comparison fs bs t o a b c d p h q l) ts a s2.0 f o k g (inn_sound o.rest s2.0 s2.1) s2.2
 
-    is_node_sound : (o : Option Truth) (no' : Bool) (ws ts us : Tokens) (t : At Token) (a f : Found) (k : Took (Spells n CMP) ts a) → a.depth < 64 → truth_of t.tok ≡ o → a.rest ≡ ws ++ t ∷ us → IsIs no' ws → is_node last o no' a.tree (a.depth + 1) t us ≡ Ok f → Took (Spells n IS) ts f
+    is_node_sound : (o : Option Truth) (no' : Bool) (ws ts us : Tokens) (t : At Token) (a f : Found) (k : Took (Spells n CMP) ts a) → a.depth < MAX_DEPTH → truth_of t.tok ≡ o → a.rest ≡ ws ++ t ∷ us → IsIs no' ws → is_node last o no' a.tree (a.depth + 1) t us ≡ Ok f → Took (Spells n IS) ts f
     is_node_sound None no' ws ts us t a f k lt h w i e = absurd cc
     is_node_sound (Some truth) no' ws ts us t a f k lt h w i e =
         let made : Found = record { tree = Is a.tree no' truth; depth = a.depth + 1; rest = us } in
@@ -230,11 +231,11 @@ module _ (last n : ℕ) (inside' : Opened → ℕ → Reader) where
         subst (Took (Spells n IS) ts) same (extend (Spells n CMP) (Spells n IS) ts (ws ++ t ∷ []) a made k (w ∙ sym (append_assoc ws (t ∷ []) us))
         (is k.front ws t no' truth a.tree a.depth k.spells i h lt))
 
-    is_of_sound : (no' : Bool) (ws ts us : Tokens) (a f : Found) (k : Took (Spells n CMP) ts a) → a.depth < 64 → a.rest ≡ ws ++ us → IsIs no' ws → is_of last no' a.tree (a.depth + 1) us ≡ Ok f → Took (Spells n IS) ts f
+    is_of_sound : (no' : Bool) (ws ts us : Tokens) (a f : Found) (k : Took (Spells n CMP) ts a) → a.depth < MAX_DEPTH → a.rest ≡ ws ++ us → IsIs no' ws → is_of last no' a.tree (a.depth + 1) us ≡ Ok f → Took (Spells n IS) ts f
     is_of_sound no' ws ts [] a f k lt w i e = absurd cc
     is_of_sound no' ws ts (t ∷ us) a f k lt w i e = is_node_sound (truth_of t.tok) no' ws ts us t a f k lt refl w i e
 
-    is_tail_sound : (ts us : Tokens) (t : At Token) (a f : Found) (k : Took (Spells n CMP) ts a) → a.depth < 64 → IsWord words.Is t.tok → a.rest ≡ t ∷ us → is_tail last a.tree (a.depth + 1) us ≡ Ok f → Took (Spells n IS) ts f
+    is_tail_sound : (ts us : Tokens) (t : At Token) (a f : Found) (k : Took (Spells n CMP) ts a) → a.depth < MAX_DEPTH → IsWord words.Is t.tok → a.rest ≡ t ∷ us → is_tail last a.tree (a.depth + 1) us ≡ Ok f → Took (Spells n IS) ts f
     is_tail_sound ts [] t a f k lt h w e = absurd cc
     is_tail_sound ts (u ∷ us) t a f k lt h w e = of_test (is_not u.tok) refl e
       where
@@ -301,8 +302,8 @@ opens_sound last zero level place ts f e = absurd cc
 opens_sound last (suc n) level place ts f e = (n, refl, level_sound last n (inside last n) (opens_sound last n) level ts f e)
 
 -- an expression that is read is in the grammar
-pub expr_sound : (last : ℕ) (ts : Tokens) (f : Part × Tokens) → expr_at last ts ≡ Ok f → Took (Spells 64 OR) ts (as_found f)
-expr_sound last ts f e = or_sound last 64 (inside last 64) (opens_sound last 64) ts (as_found f) (sym (expr_same last ts) ∙ ap seen e)
+pub expr_sound : (last : ℕ) (ts : Tokens) (f : Part × Tokens) → expr_at last ts ≡ Ok f → Took (Spells MAX_DEPTH OR) ts (as_found f)
+expr_sound last ts f e = or_sound last MAX_DEPTH (inside last MAX_DEPTH) (opens_sound last MAX_DEPTH) ts (as_found f) (sym (expr_same last ts) ∙ ap seen e)
 
 pub expr_begins : (last : ℕ) (ts : Tokens) (f : Part × Tokens) → expr_at last ts ≡ Ok f → Begins ts f
 expr_begins last ts f e = let k = expr_sound last ts f e in record { front = k.front; whole = k.whole; spells = k.spells }

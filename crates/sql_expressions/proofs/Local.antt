@@ -2,6 +2,7 @@
 use Rattle.std.proofs.Common.{◌≡◌, ℕ, ◌+◌, Bool, true, false, List, [], ◌∷◌, ◌++◌, Option, Some, None, refl, sym, ap, subst, ◌∙◌, append_assoc}
 use Rattle.std.specs.Prelude.{Result, Ok, Err, nat_lt, if◌then◌else◌}
 use Rattle.std.proofs.lemmas.List.{append-nil}
+use Rattle.iso_lexer.specs.declared.limits.TheConstants.{MAX_DEPTH}
 use Rattle.iso_lexer.specs.declared.token.At.{At}
 use Rattle.sql_trees.specs.declared.fault.SqlFault.{SqlFault}
 use Rattle.sql_trees.specs.declared.fault.SqlFault.TheVariants.{Syntax, LeftOut, TooDeep}
@@ -199,10 +200,10 @@ module _ (last : ℕ) where
   pub gives : {A Y : Type 0} (build : A → Tokens → Y) (G : Tokens → Type 0) (v : A) (ts : Tokens) → G [] → Local build G (λ r. Ok (build v r)) ts
   gives build G v ts g = at_once build G (λ r. Ok (build v r)) (Ok v) ts (λ others h. refl) g
 
-  too_deep : (place d : ℕ) → nat_lt d 64 ≡ false → deeper place d ≡ Err (TooDeep place)
+  too_deep : (place d : ℕ) → nat_lt d MAX_DEPTH ≡ false → deeper place d ≡ Err (TooDeep place)
   too_deep place d h = rw h refl
 
-  deep_enough : (place d : ℕ) → nat_lt d 64 ≡ true → deeper place d ≡ Ok (d + 1)
+  deep_enough : (place d : ℕ) → nat_lt d MAX_DEPTH ≡ true → deeper place d ≡ Ok (d + 1)
   deep_enough place d h = rw h refl
 
   some_of : {A : Type 0} (G : Tokens → Type 0) (out : Result A SqlFault) (front rest : Tokens) → Means G out front rest → Inhabited G
@@ -215,9 +216,9 @@ module _ (last : ℕ) where
 
   -- a test of the depth, and what follows it
   pub deeper_then : {B Z : Type 0} (make : B → Tokens → Z) (G : Tokens → Type 0) (place d : ℕ) (k : ℕ → Tokens → Result Z SqlFault) (p : Tokens → Result Z SqlFault) (ts : Tokens) → ((others : Tokens) → p others ≡ (deeper place d >>= λ x. k x others)) → Local make G (k (d + 1)) ts → Local make G p ts
-  deeper_then make G place d k p ts same l = of_test (nat_lt d 64) refl
+  deeper_then make G place d k p ts same l = of_test (nat_lt d MAX_DEPTH) refl
     where
-      of_test : (b : Bool) → nat_lt d 64 ≡ b → Local make G p ts
+      of_test : (b : Bool) → nat_lt d MAX_DEPTH ≡ b → Local make G p ts
       of_test true h = same_at G G (k (d + 1)) p ts (λ xs g. g) (λ us e. same us ∙ ap (λ r. r >>= λ x. k x us) (deep_enough place d h)) l
       of_test false h = deep_always make G p place ts (inhabited G l) (λ us. same us ∙ ap (λ r. r >>= λ x. k x us) (too_deep place d h))
 

@@ -1,6 +1,7 @@
 -- What is in the grammar beyond the limits is read, or is too deep.
 use Rattle.std.proofs.Common.{◌≡◌, ℕ, zero, suc, ◌+◌, ◌≤◌, Bool, true, false, [], ◌∷◌, ◌++◌, length, Option, Some, None, ◌⊎◌, inl, inr, refl, sym, ap, ◌∙◌, subst, arith, append_assoc, length-append}
 use Rattle.std.specs.Prelude.{Result, Ok, Err, max, nat_lt}
+use Rattle.iso_lexer.specs.declared.limits.TheConstants.{MAX_DEPTH}
 use Rattle.sql_trees.specs.declared.fault.SqlFault.{SqlFault}
 use Rattle.sql_trees.specs.declared.fault.SqlFault.TheVariants.{TooDeep}
 use Rattle.sql_expressions.specs.declared.level.Opened.TheVariants.{Whole, Negation, Unary}
@@ -33,16 +34,16 @@ fits_bind : (mid rest : Tokens) (r : Result Found SqlFault) (k : Found → Resul
 fits_bind mid rest r k (read v e) f = subst (λ (x : Result Found SqlFault). Fits rest (x >>= k)) (sym e) (f v)
 fits_bind mid rest r k (deep q e) f = deep q (ap (λ (x : Result Found SqlFault). x >>= k) e)
 
-is_too_deep : (place d : ℕ) → nat_lt d 64 ≡ false → deeper place d ≡ Err (TooDeep place)
+is_too_deep : (place d : ℕ) → nat_lt d MAX_DEPTH ≡ false → deeper place d ≡ Err (TooDeep place)
 is_too_deep place d h = rw h refl
 
-is_deep_enough : (place d : ℕ) → nat_lt d 64 ≡ true → deeper place d ≡ Ok (d + 1)
+is_deep_enough : (place d : ℕ) → nat_lt d MAX_DEPTH ≡ true → deeper place d ≡ Ok (d + 1)
 is_deep_enough place d h = rw h refl
 
 fits_deeper : (rest : Tokens) (place d : ℕ) (k : ℕ → Result Found SqlFault) → ((x : ℕ) → Fits rest (k x)) → Fits rest (deeper place d >>= k)
-fits_deeper rest place d k f = of_test (nat_lt d 64) refl
+fits_deeper rest place d k f = of_test (nat_lt d MAX_DEPTH) refl
   where
-    of_test : (b : Bool) → nat_lt d 64 ≡ b → Fits rest (deeper place d >>= k)
+    of_test : (b : Bool) → nat_lt d MAX_DEPTH ≡ b → Fits rest (deeper place d >>= k)
     of_test true h = subst (λ (x : Result ℕ SqlFault). Fits rest (x >>= k)) (sym (is_deep_enough place d h)) (f (d + 1))
     of_test false h = deep place (ap (λ (x : Result ℕ SqlFault). x >>= k) (is_too_deep place d h))
 
@@ -53,7 +54,7 @@ data Comes (operand : Reader) (op_of : Token → Option Operator) (ts rest : Tok
 
 comes_first : (operand : Reader) (op_of : Token → Option Operator) (ts rest : Tokens) → Fits rest (operand ts) → Comes operand op_of ts rest
 unfolding reading.chain
-comes_first operand op_of ts rest (read v e) = comes 64 v (rw e refl)
+comes_first operand op_of ts rest (read v e) = comes MAX_DEPTH v (rw e refl)
 comes_first operand op_of ts rest (deep q e) = ends q (rw e refl)
 
 comes_end : (operand : Reader) (op_of : Token → Option Operator) (ts rest : Tokens) → Comes operand op_of ts rest → next_op op_of rest ≡ None → Fits rest (reading.chain operand op_of ts)
@@ -63,20 +64,20 @@ comes_end operand op_of ts rest (comes (suc n) v e) h = read v (e ∙ rw h refl)
 comes_end operand op_of ts rest (ends q e) h = deep q e
 
 module _ (operand : Reader) (op_of : Token → Option Operator) (ts bs rest : Tokens) (t : At Token) (o : Operator) (h : op_of t.tok ≡ Some o) where
-  joined : (n : ℕ) (v w : Tree × ℕ) (b : Bool) → reading.chain operand op_of ts ≡ (join (record { op = o; place = t.span.start; rest = bs }) (seen v (t ∷ bs)) (seen w rest) >>= λ c. chain_more operand op_of n c) → nat_lt (max v.1 w.1) 64 ≡ b → Comes operand op_of ts rest
+  joined : (n : ℕ) (v w : Tree × ℕ) (b : Bool) → reading.chain operand op_of ts ≡ (join (record { op = o; place = t.span.start; rest = bs }) (seen v (t ∷ bs)) (seen w rest) >>= λ c. chain_more operand op_of n c) → nat_lt (max v.1 w.1) MAX_DEPTH ≡ b → Comes operand op_of ts rest
   joined n v w true e g = comes n (Binary o v.0 w.0, max v.1 w.1 + 1) (e ∙ rw (is_deep_enough t.span.start (max v.1 w.1) g) refl)
   joined n v w false e g = ends t.span.start (e ∙ rw (is_too_deep t.span.start (max v.1 w.1) g) refl)
 
-  behind_op : (n : ℕ) (v : Tree × ℕ) (b : Bool) → reading.chain operand op_of ts ≡ (deeper t.span.start v.1 >>= λ here. operand bs >>= λ c. join (record { op = o; place = t.span.start; rest = bs }) (seen v (t ∷ bs)) c >>= λ d. chain_more operand op_of n d) → nat_lt v.1 64 ≡ b → Fits rest (operand bs) → Comes operand op_of ts rest
+  behind_op : (n : ℕ) (v : Tree × ℕ) (b : Bool) → reading.chain operand op_of ts ≡ (deeper t.span.start v.1 >>= λ here. operand bs >>= λ c. join (record { op = o; place = t.span.start; rest = bs }) (seen v (t ∷ bs)) c >>= λ d. chain_more operand op_of n d) → nat_lt v.1 MAX_DEPTH ≡ b → Fits rest (operand bs) → Comes operand op_of ts rest
   behind_op n v false e g f = ends t.span.start (e ∙ rw (is_too_deep t.span.start v.1 g) refl)
   behind_op n v true e g (deep q f) = ends q (e ∙ rw (is_deep_enough t.span.start v.1 g, f) refl)
-  behind_op n v true e g (read w f) = joined n v w (nat_lt (max v.1 w.1) 64) (e ∙ rw (is_deep_enough t.span.start v.1 g, f) refl) refl
+  behind_op n v true e g (read w f) = joined n v w (nat_lt (max v.1 w.1) MAX_DEPTH) (e ∙ rw (is_deep_enough t.span.start v.1 g, f) refl) refl
 
   comes_on : Comes operand op_of ts (t ∷ bs) → Fits rest (operand bs) → Comes operand op_of ts rest
   unfolding chain_more
   comes_on (ends q e) f = ends q e
   comes_on (comes zero v e) f = ends t.span.start (e ∙ rw h refl)
-  comes_on (comes (suc n) v e) f = behind_op n v (nat_lt v.1 64) (e ∙ rw h refl) refl f
+  comes_on (comes (suc n) v e) f = behind_op n v (nat_lt v.1 MAX_DEPTH) (e ∙ rw h refl) refl f
 
 -- a list comes to these tokens, with turns for each of them, or is too deep
 data Lists (reader : Reader) (ts rest : Tokens) : Type 0 where
@@ -280,4 +281,4 @@ module _ (last : ℕ) where
 
   -- what is spelled at the front of the tokens, whatever its depth, is read, or is too deep
   pub read_or_deep : (ts rest : Tokens) → Spelled OR ts → Ends rest → ((p : Part) × (expr_at last (ts ++ rest) ≡ Ok (p, rest))) ⊎ ((place : ℕ) × (expr_at last (ts ++ rest) ≡ Err (TooDeep place)))
-  read_or_deep ts rest (m, r, e, d, p) s = sides rest (expr_at last (ts ++ rest)) (subst (Fits rest) (sym (expr_same last (ts ++ rest))) (reads OR ts (beyond p) 64 rest (ends_stops last rest s)))
+  read_or_deep ts rest (m, r, e, d, p) s = sides rest (expr_at last (ts ++ rest)) (subst (Fits rest) (sym (expr_same last (ts ++ rest))) (reads OR ts (beyond p) MAX_DEPTH rest (ends_stops last rest s)))

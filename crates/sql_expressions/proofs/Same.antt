@@ -3,6 +3,7 @@ use Rattle.std.proofs.Common.{◌≡◌, ℕ, zero, suc, ◌+◌, ◌<◌, ◌�
 use Rattle.std.specs.Prelude.{Result, Ok, Err, ok_or, max, nat_lt, if◌then◌else◌}
 use Rattle.std.specs.Option.{option_map_or}
 use Rattle.std.proofs.lemmas.List.Sums.{fold_push}
+use Rattle.iso_lexer.specs.declared.limits.TheConstants.{MAX_DEPTH}
 use Rattle.iso_lexer.specs.Bytes.{row_of}
 use Rattle.iso_lexer.specs.declared.token.At.{At}
 use Rattle.iso_lexer.specs.declared.sql_token.SqlSign.TheVariants as signs
@@ -72,22 +73,22 @@ pass_then (Ok us) k h f = f us
 pass_then (Err e) k h f = refl
 
 -- a test of the depth, and what follows it
-shallow_lets : (place d : ℕ) (ts : Tokens) (k : Tokens → Result (Part × Tokens) SqlFault) (h : ℕ → Result Found SqlFault) → (d < 64 → Same (k ts) (h (d + 1))) → Same (shallow place d ts >>= k) (deeper place d >>= h)
-shallow_lets place d ts k h e = of_test (nat_lt d 64) refl
+shallow_lets : (place d : ℕ) (ts : Tokens) (k : Tokens → Result (Part × Tokens) SqlFault) (h : ℕ → Result Found SqlFault) → (d < MAX_DEPTH → Same (k ts) (h (d + 1))) → Same (shallow place d ts >>= k) (deeper place d >>= h)
+shallow_lets place d ts k h e = of_test (nat_lt d MAX_DEPTH) refl
   where
-    of_test : (b : Bool) → nat_lt d 64 ≡ b → (let r : Result Tokens SqlFault = if b then Ok ts else Err (TooDeep place) in let q : Result ℕ SqlFault = if b then Ok (d + 1) else Err (TooDeep place) in Same (r >>= k) (q >>= h))
+    of_test : (b : Bool) → nat_lt d MAX_DEPTH ≡ b → (let r : Result Tokens SqlFault = if b then Ok ts else Err (TooDeep place) in let q : Result ℕ SqlFault = if b then Ok (d + 1) else Err (TooDeep place) in Same (r >>= k) (q >>= h))
     of_test true t = e (search rules)
     of_test false t = refl
 
 shallow_then : (place d : ℕ) (ts : Tokens) (k : Tokens → Result (Part × Tokens) SqlFault) (h : ℕ → Result Found SqlFault) → Same (k ts) (h (d + 1)) → Same (shallow place d ts >>= k) (deeper place d >>= h)
 shallow_then place d ts k h e = shallow_lets place d ts k h (λ l. e)
 
-is_shallow : (place d : ℕ) (ts : Tokens) → d < 64 → shallow place d ts ≡ Ok ts
-is_shallow place d ts l = let e : nat_lt d 64 ≡ true = search rules in rw e refl
+is_shallow : (place d : ℕ) (ts : Tokens) → d < MAX_DEPTH → shallow place d ts ≡ Ok ts
+is_shallow place d ts l = let e : nat_lt d MAX_DEPTH ≡ true = search rules in rw e refl
 
 -- a node, and what follows it
 node_then : (place d : ℕ) (e : Tree) (ts : Tokens) (k : Part × Tokens → Result (Part × Tokens) SqlFault) (h : ℕ → Result Found SqlFault) → Same (k (part e (d + 1), ts)) (h (d + 1)) → Same (node place d e ts >>= k) (deeper place d >>= h)
-node_then place d e ts k h s = of_test (nat_lt d 64)
+node_then place d e ts k h s = of_test (nat_lt d MAX_DEPTH)
   where
     of_test : (b : Bool) → (let r : Result Tokens SqlFault = if b then Ok ts else Err (TooDeep place) in let q : Result ℕ SqlFault = if b then Ok (d + 1) else Err (TooDeep place) in Same ((r >>= λ us. Ok (part e (d + 1), us)) >>= k) (q >>= h))
     of_test true = s
@@ -117,16 +118,16 @@ either_same is_it false t ts behind others p q h f g = rw h g
 -- ---- chains
 
 -- a node over these parts, and what goes on with it
-joined_then : (place d : ℕ) (e : Tree) (ts : Tokens) (k : Part × Tokens → Result (Part × Tokens) SqlFault) (go : Found → Result Found SqlFault) → (d < 64 → Same (k (part e (d + 1), ts)) (go (as_found (part e (d + 1), ts))))
+joined_then : (place d : ℕ) (e : Tree) (ts : Tokens) (k : Part × Tokens → Result (Part × Tokens) SqlFault) (go : Found → Result Found SqlFault) → (d < MAX_DEPTH → Same (k (part e (d + 1), ts)) (go (as_found (part e (d + 1), ts))))
     → Same (node place d e ts >>= k) ((deeper place d >>= λ x. Ok (record { tree = e; depth = x; rest = ts })) >>= go)
-joined_then place d e ts k go h = of_test (nat_lt d 64) refl
+joined_then place d e ts k go h = of_test (nat_lt d MAX_DEPTH) refl
   where
-    of_test : (b : Bool) → nat_lt d 64 ≡ b → (let r : Result Tokens SqlFault = if b then Ok ts else Err (TooDeep place) in let q : Result ℕ SqlFault = if b then Ok (d + 1) else Err (TooDeep place) in Same ((r >>= λ us. Ok (part e (d + 1), us)) >>= k) ((q >>= λ x. Ok (record { tree = e; depth = x; rest = ts })) >>= go))
+    of_test : (b : Bool) → nat_lt d MAX_DEPTH ≡ b → (let r : Result Tokens SqlFault = if b then Ok ts else Err (TooDeep place) in let q : Result ℕ SqlFault = if b then Ok (d + 1) else Err (TooDeep place) in Same ((r >>= λ us. Ok (part e (d + 1), us)) >>= k) ((q >>= λ x. Ok (record { tree = e; depth = x; rest = ts })) >>= go))
     of_test true t = h (search rules)
     of_test false t = refl
 
-too_deep : (place d : ℕ) (ts : Tokens) → 64 ≤ d → shallow place d ts ≡ Err (TooDeep place)
-too_deep place d ts h = let e : nat_lt d 64 ≡ false = search rules in rw e refl
+too_deep : (place d : ℕ) (ts : Tokens) → MAX_DEPTH ≤ d → shallow place d ts ≡ Err (TooDeep place)
+too_deep place d ts h = let e : nat_lt d MAX_DEPTH ≡ false = search rules in rw e refl
 
 module _ (read : Reader Part) (operand : Tokens → Result Found SqlFault) (same : (ts : Tokens) → Same (read ts) (operand ts)) where
   turn_same : (o : Operator) (place : ℕ) (a : Part) (us ts : Tokens) (k : Part × Tokens → Result (Part × Tokens) SqlFault) (go : Found → Result Found SqlFault)
@@ -136,7 +137,7 @@ module _ (read : Reader Part) (operand : Tokens → Result Found SqlFault) (same
   turn_same o place a us ts k go h =
       shallow_then place a.depth ts _ _ (then_same (read ts) (operand ts) _ _ (same ts) (λ b. joined_then place (max a.depth b.0.depth) (Binary o a.tree b.0.tree) b.1 k go (λ l. h (part (Binary o a.tree b.0.tree) (max a.depth b.0.depth + 1), b.1) (omega arith))))
 
-  chain_more_same : (last : ℕ) (op_of : Token → Option Operator) (n : ℕ) (a : Part) (ts : Tokens) → 64 ≤ n + a.depth → Same (reading.chain_more last read op_of (suc n) a ts) (chain_more operand op_of n (as_found (a, ts)))
+  chain_more_same : (last : ℕ) (op_of : Token → Option Operator) (n : ℕ) (a : Part) (ts : Tokens) → MAX_DEPTH ≤ n + a.depth → Same (reading.chain_more last read op_of (suc n) a ts) (chain_more operand op_of n (as_found (a, ts)))
   unfolding reading.chain_more chain_more
   chain_more_same last op_of zero a [] l = refl
   chain_more_same last op_of zero a (t ∷ ts) l = of_op (op_of t.tok)
@@ -201,7 +202,7 @@ module _ (read : Reader Part) (operand : Tokens → Result Found SqlFault) (same
 
 chain_same : (last : ℕ) (read : Reader Part) (operand : Tokens → Result Found SqlFault) (level : _) → ((ts : Tokens) → Same (read ts) (operand ts)) → (ts : Tokens) → Same (reading.chain last read level ts) (chain operand (operators level) ts)
 unfolding reading.chain chain
-chain_same last read operand level same ts = then_same (read ts) (operand ts) (λ x. reading.chain_more last read (operators level) 65 x.0 x.1) (chain_more operand (operators level) 64) (same ts) (λ x. chain_more_same read operand same last (operators level) 64 x.0 x.1 (omega arith))
+chain_same last read operand level same ts = then_same (read ts) (operand ts) (λ x. reading.chain_more last read (operators level) (suc MAX_DEPTH) x.0 x.1) (chain_more operand (operators level) MAX_DEPTH) (same ts) (λ x. chain_more_same read operand same last (operators level) MAX_DEPTH x.0 x.1 (omega arith))
 
 -- the deepest of a list and what stands before it
 max_assoc : (a b c : ℕ) → max (max a b) c ≡ max a (max b c)
@@ -231,7 +232,7 @@ module _ (last : ℕ) where
   abbrev is_behind : Part → Reader Part
   is_behind a ts = either (is_word words.Is) (λ us. shallow (place_of last ts) a.depth us >>= λ vs. either (is_word words.Not) (gives true) (gives false) vs >>= λ n. asked_at n.0 (place_of last ts) a n.1) (gives a) ts
 
-  truth_same : (neg : Bool) (place : ℕ) (a : Part) (ts : Tokens) → a.depth < 64 → Same (asked_at neg place a ts) (is_of last neg a.tree (a.depth + 1) ts)
+  truth_same : (neg : Bool) (place : ℕ) (a : Part) (ts : Tokens) → a.depth < MAX_DEPTH → Same (asked_at neg place a ts) (is_of last neg a.tree (a.depth + 1) ts)
   truth_same neg place a [] l = refl
   truth_same neg place a (t ∷ ts) l = of_truth (truth_of t.tok)
     where
@@ -239,7 +240,7 @@ module _ (last : ℕ) where
       of_truth None = refl
       of_truth (Some w) = rw (is_shallow place a.depth ts l) refl
 
-  is_tail_same : (place : ℕ) (a : Part) (ts : Tokens) → a.depth < 64 → Same (either (is_word words.Not) (gives true) (gives false) ts >>= λ n. asked_at n.0 place a n.1) (is_tail last a.tree (a.depth + 1) ts)
+  is_tail_same : (place : ℕ) (a : Part) (ts : Tokens) → a.depth < MAX_DEPTH → Same (either (is_word words.Not) (gives true) (gives false) ts >>= λ n. asked_at n.0 place a n.1) (is_tail last a.tree (a.depth + 1) ts)
   is_tail_same place a [] l = truth_same false place a [] l
   is_tail_same place a (t ∷ ts) l = of_test (is_not t.tok) (is_not_word t.tok)
     where
@@ -356,7 +357,7 @@ module _ (last : ℕ) where
         (and_then low.1 _ _ (λ us. then_same (reading.cat_at last within us) (cat_at last inside' us) _ _ (cat_same us) (λ high. node_same place (max a.depth (max low.0.depth high.0.depth)) (Between a.tree neg low.0.tree high.0.tree) high.1)))))
 
     -- behind a NOT, whose place may hold a node
-    not_test_same : (place : ℕ) (a : Part) (rs ts : Tokens) → a.depth < 64 → Same (one_at (misplaced last) (reading.test_of last within) ts >>= λ x. x.0 true place a x.1) (not_in_at last inside' place (as_found (a, rs)) ts)
+    not_test_same : (place : ℕ) (a : Part) (rs ts : Tokens) → a.depth < MAX_DEPTH → Same (one_at (misplaced last) (reading.test_of last within) ts >>= λ x. x.0 true place a x.1) (not_in_at last inside' place (as_found (a, rs)) ts)
     not_test_same place a rs [] l = refl
     not_test_same place a rs (t ∷ ts) l = of_tok t.tok
       where
@@ -428,8 +429,8 @@ inside_same last (suc n) Negation place ts = not_same last (reading.inside last 
 inside_same last (suc n) Unary place ts = una_same last (reading.inside last n) (inside last n) (inside_same last n) ts
 
 -- an expression is what the pieces find
-pub expr_same : (last : ℕ) (ts : Tokens) → seen (expr_at last ts) ≡ or_at last (inside last 64) ts
-expr_same last ts = or_same last (reading.inside last 64) (inside last 64) (inside_same last 64) ts
+pub expr_same : (last : ℕ) (ts : Tokens) → seen (expr_at last ts) ≡ or_at last (inside last MAX_DEPTH) ts
+expr_same last ts = or_same last (reading.inside last MAX_DEPTH) (inside last MAX_DEPTH) (inside_same last MAX_DEPTH) ts
 
 -- what the pieces find is what was read
 pub is_part : (r : Result (Part × Tokens) SqlFault) (f : Found) → seen r ≡ Ok f → r ≡ Ok (part f.tree f.depth, f.rest)

@@ -1,6 +1,7 @@
 -- What is read is in the grammar, in front of what is left.
 use Rattle.std.proofs.Common.{◌≡◌, ℕ, zero, suc, ◌+◌, ◌<◌, ◌∷◌, ◌++◌, length, Option, Some, None, refl, sym, ap, ◌∙◌, subst, arith, append_assoc, length-append}
 use Rattle.std.specs.Prelude.{Ok, max}
+use Rattle.iso_lexer.specs.declared.limits.TheConstants.{MAX_DEPTH}
 use Rattle.iso_lexer.specs.declared.token.At.{At}
 use Rattle.sql_trees.specs.Tokens.{Token, Tokens}
 use Rattle.sql_trees.specs.Tokens as tok
@@ -31,7 +32,7 @@ took_up P Q up ts f k = record { front = k.front; whole = k.whole; some = k.some
 
 -- an operator's node
 pub joined_as : (L P Q : Tokens → Tree → ℕ → Type 0) (op_of : Token → Option Operator) →
-    ((fs bs : Tokens) (t : At Token) (o : Operator) (a b : Tree) (c d : ℕ) → L fs a c → op_of t.tok ≡ Some o → P bs b d → max c d < 64 → Q (fs ++ t ∷ bs) (Binary o a b) (max c d + 1)) →
+    ((fs bs : Tokens) (t : At Token) (o : Operator) (a b : Tree) (c d : ℕ) → L fs a c → op_of t.tok ≡ Some o → P bs b d → max c d < MAX_DEPTH → Q (fs ++ t ∷ bs) (Binary o a b) (max c d + 1)) →
     (ts : Tokens) (a b c : Found) (o : Found_op) → Took L ts a → next_op op_of a.rest ≡ Some o → Took P o.rest b → join o a b ≡ Ok c → Took Q ts c
 joined_as L P Q op_of node ts a b c o k e h j =
     let n = next_op_ok op_of a.rest o e in
@@ -47,7 +48,7 @@ joined_as L P Q op_of node ts a b c o k e h j =
 
 -- a chain of operators
 module _ (operand : Reader) (op_of : Token → Option Operator) (P Q : Tokens → Tree → ℕ → Type 0) (sound : Sound P operand)
-    (node : (fs bs : Tokens) (t : At Token) (o : Operator) (a b : Tree) (c d : ℕ) → Q fs a c → op_of t.tok ≡ Some o → P bs b d → max c d < 64 → Q (fs ++ t ∷ bs) (Binary o a b) (max c d + 1)) where
+    (node : (fs bs : Tokens) (t : At Token) (o : Operator) (a b : Tree) (c d : ℕ) → Q fs a c → op_of t.tok ≡ Some o → P bs b d → max c d < MAX_DEPTH → Q (fs ++ t ∷ bs) (Binary o a b) (max c d + 1)) where
   more_sound : (n : ℕ) (ts : Tokens) (a f : Found) → Took Q ts a → chain_more operand op_of n a ≡ Ok f → Took Q ts f
   unfolding chain_more
   more_sound zero ts a f k e = of_op (next_op op_of a.rest) e
@@ -69,7 +70,7 @@ module _ (operand : Reader) (op_of : Token → Option Operator) (P Q : Tokens �
   unfolding chain
   chain_sound up ts f e =
       let s = bind_ok _ _ f e in
-      more_sound 64 ts s.0 f (took_up P Q up ts s.0 (sound ts s.0 s.1)) s.2
+      more_sound MAX_DEPTH ts s.0 f (took_up P Q up ts s.0 (sound ts s.0 s.1)) s.2
 
 -- a list
 pub record Took_list (P : Tokens → Trees → ℕ → Type 0) (ts : Tokens) (f : Found_list) : Type 0 where

@@ -1,6 +1,7 @@
 -- What a reading that succeeds has met.
 use Rattle.std.proofs.Common.{◌≡◌, ℕ, ◌+◌, ◌<◌, Bool, true, false, [], ◌∷◌, Option, Some, None, refl, ◌∙◌, rules}
 use Rattle.std.specs.Prelude.{Result, Ok, Err, ok_or, nat_lt, if◌then◌else◌}
+use Rattle.iso_lexer.specs.declared.limits.TheConstants.{MAX_DEPTH}
 use Rattle.sql_trees.specs.declared.fault.SqlFault.{SqlFault}
 use Rattle.sql_trees.specs.declared.fault.SqlFault.TheVariants.{TooDeep}
 use Rattle.iso_lexer.specs.declared.token.At.{At}
@@ -18,10 +19,10 @@ pub bind_ok : {A B : Type 0} (r : Result A SqlFault) (f : A → Result B SqlFaul
 bind_ok (Ok x) f y e = (x, refl, e)
 bind_ok (Err g) f y e = absurd cc
 
-pub deeper_ok : (p d e : ℕ) → deeper p d ≡ Ok e → (d < 64) × (e ≡ d + 1)
-deeper_ok p d e h = of_test (nat_lt d 64) refl h
+pub deeper_ok : (p d e : ℕ) → deeper p d ≡ Ok e → (d < MAX_DEPTH) × (e ≡ d + 1)
+deeper_ok p d e h = of_test (nat_lt d MAX_DEPTH) refl h
   where
-    of_test : (b : Bool) → nat_lt d 64 ≡ b → (let r : Result ℕ SqlFault = if b then Ok (d + 1) else Err (TooDeep p) in r ≡ Ok e) → (d < 64) × (e ≡ d + 1)
+    of_test : (b : Bool) → nat_lt d MAX_DEPTH ≡ b → (let r : Result ℕ SqlFault = if b then Ok (d + 1) else Err (TooDeep p) in r ≡ Ok e) → (d < MAX_DEPTH) × (e ≡ d + 1)
     of_test true t g = (search rules, cc)
     of_test false t g = absurd cc
 

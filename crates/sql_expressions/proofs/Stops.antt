@@ -1,6 +1,7 @@
 -- Each level stops where the tokens up to there say so.
 use Rattle.std.proofs.Common.{◌≡◌, ℕ, zero, suc, ◌+◌, ◌<◌, Bool, true, false, List, [], ◌∷◌, ◌++◌, length, Option, Some, None, refl, sym, ap, ◌∙◌, subst}
 use Rattle.std.specs.Prelude.{Result, Ok, Err, max}
+use Rattle.iso_lexer.specs.declared.limits.TheConstants.{MAX_DEPTH}
 use Rattle.sql_trees.specs.declared.fault.SqlFault.{SqlFault}
 use Rattle.sql_expressions.specs.declared.level.Opened.{Opened}
 use Rattle.sql_expressions.specs.declared.level.Opened.TheVariants.{Whole, Negation, Unary}
@@ -336,7 +337,7 @@ parted_same r (Err e) others h = is_fault r e h
 
 pub expr_local : (last : ℕ) (ts : Tokens) → Local last parted (Spelled OR) (expr_at last) ts
 expr_local last ts =
-    let l = or_local last (inside last 64) (inside_local last 64) (λ p us f e. shortens last 64 p Whole us f e) ts in
+    let l = or_local last (inside last MAX_DEPTH) (inside_local last MAX_DEPTH) (λ p us f e. shortens last MAX_DEPTH p Whole us f e) ts in
     record {
       out = l.out;
       front = l.front;

@@ -2,6 +2,7 @@
 use Rattle.std.proofs.Common.{◌≡◌, ℕ, zero, suc, ◌+◌, ◌<◌, ◌≤◌, Bool, true, false, [], ◌∷◌, ◌++◌, length, Option, Some, None, refl, sym, ap, ◌∙◌, subst, arith, append_assoc, length-append}
 use Rattle.std.specs.Prelude.{Result, Ok, Err, max}
 use Rattle.std.proofs.lemmas.List.{append-nil}
+use Rattle.iso_lexer.specs.declared.limits.TheConstants.{MAX_DEPTH}
 use Rattle.sql_trees.specs.declared.fault.SqlFault.{SqlFault}
 use Rattle.sql_trees.specs.declared.fault.SqlFault.TheVariants.{TooDeep}
 use Rattle.iso_lexer.specs.declared.token.At.{At}
@@ -96,7 +97,7 @@ module _ (last : ℕ) where
 
     pub chain_local : Reads l (reading.chain operand (operator_at l))
     unfolding reading.chain
-    chain_local ts = in_turn last (Spelled (tighter l)) (Tail l l) (Spelled l) operand (λ a. chain_more operand (operator_at l) 64 a) ts ([], same_tail l) (λ xs ys s m. m xs (only_spelled l xs s)) (read ts) (λ v is. chain_tail 64 v _)
+    chain_local ts = in_turn last (Spelled (tighter l)) (Tail l l) (Spelled l) operand (λ a. chain_more operand (operator_at l) MAX_DEPTH a) ts ([], same_tail l) (λ xs ys s m. m xs (only_spelled l xs s)) (read ts) (λ v is. chain_tail MAX_DEPTH v _)
 
   -- ---- lists
 

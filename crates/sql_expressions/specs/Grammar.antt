@@ -1,5 +1,6 @@
 -- The grammar of expressions: which tokens spell which tree. Numbers are sections of PostgreSQL 17's manual.
 use Rattle.std.specs.Prelude.{◌≡◌, ℕ, suc, ◌+◌, ◌<◌, max, Bool, true, false, List, [], ◌∷◌, ◌++◌, Option, Some, None}
+use Rattle.iso_lexer.specs.declared.limits.TheConstants.{MAX_DEPTH}
 use Rattle.iso_lexer.specs.declared.token.At.{At}
 use Rattle.iso_lexer.specs.declared.sql_token.SqlSign.TheVariants as signs
 use Rattle.sql_trees.specs.declared.word.Word.{Word}
@@ -149,16 +150,16 @@ mutual
 
 -- the same, where no node is deeper than 64
 abbrev pub Spells : ℕ → Level → Tokens → Tree → ℕ → Type 0
-Spells = SpellsIn 64
+Spells = SpellsIn MAX_DEPTH
 
 abbrev pub Items : ℕ → Tokens → Trees → ℕ → Type 0
-Items = ItemsIn 64
+Items = ItemsIn MAX_DEPTH
 
 -- the tokens begin with a spelling of what was found, and the rest is left
 pub record Begins (ts : Tokens) (f : Part × Tokens) : Type 0 where
   pub front : Tokens
   pub whole : ts ≡ front ++ f.1
-  pub spells : Spells 64 OR front f.0.tree f.0.depth
+  pub spells : Spells MAX_DEPTH OR front f.0.tree f.0.depth
 
 -- a token that an expression goes on with
 abbrev pub may_go_on : Token → Bool

@@ -1,5 +1,6 @@
 -- What is so of every list of tokens.
 use Rattle.std.specs.Prelude.{◌≡◌, ℕ, true, false, List, [], ◌∷◌, ◌++◌, Option, Some, None, Ok, Err, ◌⊎◌, if◌then◌else◌}
+use Rattle.iso_lexer.specs.declared.limits.TheConstants.{MAX_DEPTH}
 use Rattle.iso_lexer.specs.declared.token.At.{At}
 use Rattle.iso_lexer.specs.declared.sql_token.SqlSign.TheVariants as signs
 use Rattle.sql_trees.specs.declared.fault.SqlFault.{SqlFault}
@@ -66,7 +67,7 @@ pub record DeepFirst (last : ℕ) (ts : Tokens) (place : ℕ) : Type 0 where
   pub makes : Makes place (front ++ first rest)
   pub begins : (more : Tokens) × Spelled OR (front ++ more)
   pub stays : (others : Tokens) → head others ≡ head rest → expr_at last (front ++ others) ≡ Err (TooDeep place)
-  pub beyond : (others fs bs : Tokens) (e : Tree) (d : ℕ) → head others ≡ head rest → front ++ others ≡ fs ++ bs → Spells 64 OR fs e d → Ends bs → ⊥
+  pub beyond : (others fs bs : Tokens) (e : Tree) (d : ℕ) → head others ≡ head rest → front ++ others ≡ fs ++ bs → Spells MAX_DEPTH OR fs e d → Ends bs → ⊥
 
 abbrev pub DeepIsFirst : Type 0
 DeepIsFirst = (last place : ℕ) (ts : Tokens) → expr_at last ts ≡ Err (TooDeep place) → DeepFirst last ts place

@@ -1,5 +1,6 @@
 -- To be believed. Reading an expression from left to right, with the first fault that is met.
 use Rattle.std.specs.Prelude.{ℕ, zero, suc, ◌+◌, max, Bool, true, false, List, [], ◌∷◌, fold, Option, Some, Result, Ok, Err, is_some, nat_lt, if◌then◌else◌}
+use Rattle.iso_lexer.specs.declared.limits.TheConstants.{MAX_DEPTH}
 use Rattle.iso_lexer.specs.declared.sql_token.SqlSign.TheVariants as signs
 use Rattle.sql_trees.specs.declared.fault.SqlFault.{SqlFault}
 use Rattle.sql_trees.specs.declared.fault.SqlFault.TheVariants.{LeftOut, TooDeep}
@@ -72,7 +73,7 @@ trees_in (e ∷ es) = more e.tree (trees_in es)
 
 -- a token at this place may make a node over parts of which the deepest has this depth
 abbrev pub shallow : ℕ → ℕ → Tokens → Result Tokens SqlFault
-shallow place depth ts = if nat_lt depth 64 then Ok ts else Err (TooDeep place)
+shallow place depth ts = if nat_lt depth MAX_DEPTH then Ok ts else Err (TooDeep place)
 
 -- the node that it makes of them
 abbrev pub node : ℕ → ℕ → Tree → Reader Part
@@ -89,7 +90,7 @@ module _ (last : ℕ) where
 
   -- operands with operators of a level between them, which group to the left; of 65 operators the last would make too deep a node
   unfoldable pub chain : Reader Part → Chain → Reader Part
-  chain operand level = operand >>= chain_more operand (operators level) 65
+  chain operand level = operand >>= chain_more operand (operators level) (suc MAX_DEPTH)
 
   -- a name, with no call behind it: the name of an aggregate is left out there, elsewhere the call
   abbrev pub column_at : Reader Tree
@@ -157,4 +158,4 @@ module _ (last : ℕ) where
 
   -- an expression
   abbrev pub expr_at : Reader Part
-  expr_at = or_at (inside 64)
+  expr_at = or_at (inside MAX_DEPTH)

@@ -1,6 +1,7 @@
 //! Expressions, read from left to right by a function for each level.
 
 ghost use Rattle.std.specs.Prelude.{ℕ, ◌≡◌, ◌+◌, [], ◌<◌, ◌++◌, IfOk, option_map, length};
+ghost use Rattle.iso_lexer.specs.declared.limits.TheConstants.{MAX_DEPTH};
 ghost use Rattle.sql_expressions.specs.declared.level.Opened.TheVariants.{Whole};
 ghost use Rattle.sql_trees.specs.Tokens.{Tokens, tok_view, tok_views, tok_at};
 ghost use Rattle.sql_trees.specs.Trees.{Tree, tree_of, trees};
@@ -15,12 +16,9 @@ use crate::cursor::{Parser, Tokens, after_comma};
 use crate::level::{Chain, Membership, Opened, Prefix};
 use crate::operator::{comparison, is_call, is_not, prefix, truth_of};
 use crate::parsed::Parsed;
-use iso_lexer::{At, SqlSign};
+use iso_lexer::{At, MAX_DEPTH, SqlSign};
 use sql_trees::{Expr, Operator, SqlFault, Tok, Truth, Word};
 use std::alloc::Global;
-
-/// The depth of the deepest expression, and how many openings may be unclosed.
-pub const MAX_DEPTH: usize = 64;
 
 /// What a level reads: an expression, and the tokens after it.
 pub type Read<'t, 'a> = Result<(Parsed<'a>, Tokens<'t, 'a>), SqlFault>;
@@ -621,7 +619,7 @@ impl Parser {
         // It takes a token at least.
         ensures shorter { IfOk result (λ x. length (tok_views x.1.now) < length (tok_views tokens.now)) }
         // What is in the grammar is read, where what follows does not go on with it.
-        ensures only { (front rest : Tokens) (e : Tree) (d : ℕ) → tok_views tokens.now ≡ front ++ rest → Spells 64 OR front e d → Ends rest → Gives {Y = Part × Tokens} (λ x. (part_of x.0, tok_views x.1.now)) result (Ok (record { tree = e; depth = d }, rest)) }
+        ensures only { (front rest : Tokens) (e : Tree) (d : ℕ) → tok_views tokens.now ≡ front ++ rest → Spells MAX_DEPTH OR front e d → Ends rest → Gives {Y = Part × Tokens} (λ x. (part_of x.0, tok_views x.1.now)) result (Ok (record { tree = e; depth = d }, rest)) }
     {
         self.chain(Chain::Or, MAX_DEPTH, tokens)
     }
@@ -638,7 +636,7 @@ pub fn parse_expr<'t, 'a>(
     // What is read is in the grammar.
     ensures found { IfOk result (λ x. Begins (tok_views tokens.now) (part_of x.0, tok_views x.1.now)) }
     // What is in the grammar is read, where what follows does not go on with it.
-    ensures only { (front rest : Tokens) (e : Tree) (d : ℕ) → tok_views tokens.now ≡ front ++ rest → Spells 64 OR front e d → Ends rest → Gives {Y = Part × Tokens} (λ x. (part_of x.0, tok_views x.1.now)) result (Ok (record { tree = e; depth = d }, rest)) }
+    ensures only { (front rest : Tokens) (e : Tree) (d : ℕ) → tok_views tokens.now ≡ front ++ rest → Spells MAX_DEPTH OR front e d → Ends rest → Gives {Y = Part × Tokens} (λ x. (part_of x.0, tok_views x.1.now)) result (Ok (record { tree = e; depth = d }, rest)) }
 {
     let parser = Parser { alloc, text_len };
     parser.expression(tokens)

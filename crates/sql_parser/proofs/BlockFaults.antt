@@ -4,6 +4,7 @@ use Rattle.std.proofs.lemmas.Bool.{and_parts, and_from}
 use Rattle.std.proofs.lemmas.List.Folds.{list_all-append}
 use Rattle.std.specs.List.{list_all}
 use Rattle.std.specs.Prelude.{Result, Ok, Err, not, nat_lt, if◌then◌else◌}
+use Rattle.iso_lexer.specs.declared.limits.TheConstants.{MAX_STMTS}
 use Rattle.iso_lexer.specs.declared.token.At.{At}
 use Rattle.sql_trees.specs.declared.fault.SqlFault.{SqlFault}
 use Rattle.sql_trees.specs.declared.fault.SqlFault.TheVariants.{Syntax, LeftOut, TooMany}
@@ -117,7 +118,7 @@ piece_whole : (last : ℕ) (role : Role) (ss more : List StmtTree) (ts : Tokens)
 unfolding piece_at
 piece_whole last role ss more [] h e = absurd (omega arith)
 piece_whole last role ss more (t ∷ ts) h e =
-    let a = when_ok (nat_lt (length ss) 256) (TooMany t.span.start) (whole_at last role (t ∷ ts) >>= λ s. Ok (ss ++ s ∷ [])) more e in
+    let a = when_ok (nat_lt (length ss) MAX_STMTS) (TooMany t.span.start) (whole_at last role (t ∷ ts) >>= λ s. Ok (ss ++ s ∷ [])) more e in
     let s = bind_ok (whole_at last role (t ∷ ts)) (λ s. Ok (ss ++ s ∷ [])) more a.1 in
     (s.0, s.1)
 
@@ -125,7 +126,7 @@ piece_any : (last : ℕ) (role : Role) (ss more : List StmtTree) (ts : Tokens) �
 unfolding piece_at
 piece_any last role ss more [] e = ([], no_stmt)
 piece_any last role ss more (t ∷ ts) e =
-    let a = when_ok (nat_lt (length ss) 256) (TooMany t.span.start) (whole_at last role (t ∷ ts) >>= λ s. Ok (ss ++ s ∷ [])) more e in
+    let a = when_ok (nat_lt (length ss) MAX_STMTS) (TooMany t.span.start) (whole_at last role (t ∷ ts) >>= λ s. Ok (ss ++ s ∷ [])) more e in
     let s = bind_ok (whole_at last role (t ∷ ts)) (λ s. Ok (ss ++ s ∷ [])) more a.1 in
     (s.0 ∷ [], a_stmt (t ∷ ts) s.0 (whole_taken last OfAnyDepth (Unit {0}) (Unit {0}) role (t ∷ ts) s.0 (stmt_local last OfAnyDepth (Unit {0}) (Unit {0}) some_of_any_depth (any_depth_local last (Unit {0})) of_any_depth_starts (one_name last) role (t ∷ ts) (free_of last role (t ∷ ts) s.0 s.1) (λ w. tt)) s.1))
 
@@ -234,7 +235,7 @@ module _ (role : Role) (f : SqlFault) (stops : IsStop f) where
   piece_fault : (last : ℕ) (ss : List StmtTree) (ts : Tokens) → piece_at last role ss ts ≡ Err f → (0 < length ts) × (whole_at last role ts ≡ Err f)
   unfolding piece_at
   piece_fault last ss [] e = absurd (no_both ss f e)
-  piece_fault last ss (t ∷ ts) e = (omega arith, of_few (nat_lt (length ss) 256) e)
+  piece_fault last ss (t ∷ ts) e = (omega arith, of_few (nat_lt (length ss) MAX_STMTS) e)
     where
       of_whole : (r : Result StmtTree SqlFault) → (r >>= λ s. Ok (ss ++ s ∷ [])) ≡ Err f → r ≡ Err f
       of_whole (Ok s) h = absurd (no_both (ss ++ s ∷ []) f h)

@@ -3,6 +3,7 @@ use Rattle.std.proofs.Common.{◌≡◌, ℕ, zero, suc, ◌+◌, Bool, true, fa
 use Rattle.std.proofs.lemmas.Bool.{lt-ltb}
 use Rattle.std.specs.List.{filter, zip, slice_split, onto_first}
 use Rattle.std.specs.Prelude.{Result, Ok, Err, nat_lt, if◌then◌else◌, ◌&&◌}
+use Rattle.iso_lexer.specs.declared.limits.TheConstants.{MAX_STMTS}
 use Rattle.iso_lexer.specs.declared.token.At.{At}
 use Rattle.iso_lexer.specs.declared.sql_token.SqlSign.TheVariants as signs
 use Rattle.sql_trees.specs.declared.fault.SqlFault.{SqlFault}
@@ -148,44 +149,44 @@ module _ (role : Role) where
 
   module _ (ps : List (Tokens × ℕ)) (next : List StmtTree → Result (List StmtTree) SqlFault) (place : ℕ) where
     abbrev Goes : Type 0
-    Goes = (n : ℕ) (us : List StmtTree) → n + length us ≡ 256 → next us ≡ rest_of us n ps
+    Goes = (n : ℕ) (us : List StmtTree) → n + length us ≡ MAX_STMTS → next us ≡ rest_of us n ps
 
-    read_one : Goes → (ss : List StmtTree) (n : ℕ) → suc n + length ss ≡ 256 → (r : Result StmtTree SqlFault) → ((r >>= λ s. Ok (ss ++ s ∷ [])) >>= next) ≡ (((r >>= all_read) >>= λ x. stmts_at role n ps >>= λ more. Ok (x.0 ∷ more)) >>= λ more. Ok (ss ++ more))
+    read_one : Goes → (ss : List StmtTree) (n : ℕ) → suc n + length ss ≡ MAX_STMTS → (r : Result StmtTree SqlFault) → ((r >>= λ s. Ok (ss ++ s ∷ [])) >>= next) ≡ (((r >>= all_read) >>= λ x. stmts_at role n ps >>= λ more. Ok (x.0 ∷ more)) >>= λ more. Ok (ss ++ more))
     read_one go ss n e (Ok s) = go n (ss ++ s ∷ []) (omega (arith, length-append ss (s ∷ []))) ∙ rest_behind ss s n ps
     read_one go ss n e (Err f) = refl
 
-    piece_same : Goes → (piece : Tokens) (ss : List StmtTree) (n : ℕ) → n + length ss ≡ 256 → (blocks.piece_at place role ss piece >>= next) ≡ rest_of ss n ((piece, place) ∷ ps)
+    piece_same : Goes → (piece : Tokens) (ss : List StmtTree) (n : ℕ) → n + length ss ≡ MAX_STMTS → (blocks.piece_at place role ss piece >>= next) ≡ rest_of ss n ((piece, place) ∷ ps)
     unfolding stmts_at blocks.piece_at
     piece_same go [] ss n e = go n ss e
     piece_same go (t ∷ ts) ss zero e =
-        let many : nat_lt (length ss) 256 ≡ false = search (arith, rules) in
+        let many : nat_lt (length ss) MAX_STMTS ≡ false = search (arith, rules) in
         rw many refl
     piece_same go (t ∷ ts) ss (suc n) e =
-        let few : nat_lt (length ss) 256 ≡ true = lt-ltb (length ss) 256 (omega arith) in
+        let few : nat_lt (length ss) MAX_STMTS ≡ true = lt-ltb (length ss) MAX_STMTS (omega arith) in
         rw (few, whole_same place role (t ∷ ts)) (read_one go ss n e (blocks.whole_at place role (t ∷ ts)))
 
   only_same : (r : Result (List StmtTree) SqlFault) → r ≡ (r >>= λ us. Ok us)
   only_same (Ok us) = refl
   only_same (Err e) = refl
 
-  stmts_same : (last : ℕ) (ts piece : Tokens) (ss : List StmtTree) (n : ℕ) → n + length ss ≡ 256 → blocks.stmts_at last role ss piece ts ≡ rest_of ss n (pieces_from last piece ts)
+  stmts_same : (last : ℕ) (ts piece : Tokens) (ss : List StmtTree) (n : ℕ) → n + length ss ≡ MAX_STMTS → blocks.stmts_at last role ss piece ts ≡ rest_of ss n (pieces_from last piece ts)
   unfolding blocks.stmts_at stmts_at
   stmts_same last [] piece ss n e =
       only_same (blocks.piece_at last role ss piece)
       ∙ (piece_same [] (λ us. Ok us) last none_left piece ss n e ∙ ap (λ (qs : List Tokens). rest_of ss n (zip qs (last ∷ []))) (sym (onto_none piece [])))
     where
-      none_left : (m : ℕ) (us : List StmtTree) → m + length us ≡ 256 → Ok us ≡ rest_of us m []
+      none_left : (m : ℕ) (us : List StmtTree) → m + length us ≡ MAX_STMTS → Ok us ≡ rest_of us m []
       none_left m us h = ap Ok (sym (append-nil us))
   stmts_same last (t ∷ ts) piece ss n e = of_test (is_end t) refl (λ m us ps h. stmts_same last ts ps us m h)
     where
-      of_test : (b : Bool) → is_end t ≡ b → ((m : ℕ) (us : List StmtTree) (ps : Tokens) → m + length us ≡ 256 → blocks.stmts_at last role us ps ts ≡ rest_of us m (pieces_from last ps ts)) → (if b then (blocks.piece_at t.span.start role ss piece >>= λ more. blocks.stmts_at last role more [] ts) else blocks.stmts_at last role ss (piece ++ t ∷ []) ts) ≡ rest_of ss n (pieces_from last piece (t ∷ ts))
+      of_test : (b : Bool) → is_end t ≡ b → ((m : ℕ) (us : List StmtTree) (ps : Tokens) → m + length us ≡ MAX_STMTS → blocks.stmts_at last role us ps ts ≡ rest_of us m (pieces_from last ps ts)) → (if b then (blocks.piece_at t.span.start role ss piece >>= λ more. blocks.stmts_at last role more [] ts) else blocks.stmts_at last role ss (piece ++ t ∷ []) ts) ≡ rest_of ss n (pieces_from last piece (t ∷ ts))
       of_test true h go =
           piece_same (pieces_from last [] ts) (λ us. blocks.stmts_at last role us [] ts) t.span.start (λ m us k. go m us [] k) piece ss n e
           ∙ rw (h, onto_none) refl
       of_test false h go = go n ss (piece ++ t ∷ []) e ∙ rw (h, onto_one) refl
 
 pub block_same : (last : ℕ) (role : Role) (ts : Tokens) → block_at last role ts ≡ blocks.block_at last role ts
-block_same last role ts = sym (stmts_same role last ts [] [] 256 refl ∙ of_rest (stmts_at role 256 (pieces last ts)))
+block_same last role ts = sym (stmts_same role last ts [] [] MAX_STMTS refl ∙ of_rest (stmts_at role MAX_STMTS (pieces last ts)))
   where
     of_rest : (r : Result (List StmtTree) SqlFault) → (r >>= λ more. Ok ([] ++ more)) ≡ r
     of_rest (Ok us) = refl

@@ -4,6 +4,7 @@ use Rattle.std.proofs.lemmas.Bool.{lt-ltb}
 use Rattle.std.proofs.lemmas.List.{length-map}
 use Rattle.std.specs.Result.{result_and}
 use Rattle.std.specs.Prelude.{Result, Ok, Err, Bool, true, false, nat_lt, if◌then◌else◌}
+use Rattle.iso_lexer.specs.declared.limits.TheConstants.{MAX_STMTS}
 use Rattle.iso_lexer.specs.declared.token.At.{At}
 use Rattle.iso_lexer.specs.declared.sql_token.SqlSign.TheVariants as signs
 use Rattle.sql_trees.specs.declared.fault.SqlFault.{SqlFault}
@@ -65,11 +66,11 @@ nothing [] e = refl
 nothing (x ∷ xs) e = absurd (omega arith)
 
 -- a statement with a fault ends the block
-pub piece_stopped : (last : ℕ) (role : Role) (stmts : List Stmt) (xs : List (At Tok)) (f : SqlFault) → 0 < length xs → length stmts < 256 → whole_at last role (tok_views xs) ≡ Err f → piece_at last role (map stmt_of stmts) (tok_views xs) ≡ Err f
+pub piece_stopped : (last : ℕ) (role : Role) (stmts : List Stmt) (xs : List (At Tok)) (f : SqlFault) → 0 < length xs → length stmts < MAX_STMTS → whole_at last role (tok_views xs) ≡ Err f → piece_at last role (map stmt_of stmts) (tok_views xs) ≡ Err f
 unfolding piece_at
 piece_stopped last role stmts [] f h less e = absurd (omega arith)
 piece_stopped last role stmts (x ∷ xs) f h less e =
-    let few : nat_lt (length (map stmt_of stmts)) 256 ≡ true = lt-ltb (length (map stmt_of stmts)) 256 (omega (arith, length-map stmts stmt_of)) in
+    let few : nat_lt (length (map stmt_of stmts)) MAX_STMTS ≡ true = lt-ltb (length (map stmt_of stmts)) MAX_STMTS (omega (arith, length-map stmts stmt_of)) in
     rw (few, e) refl
 
 -- a statement's answer, where all tokens have been read, is that of the whole

@@ -4,6 +4,7 @@ use Rattle.std.proofs.lemmas.Bool.{and_from, not_from_false}
 use Rattle.std.specs.List.{list_all}
 use Rattle.std.specs.Prelude.{Result, Ok, Err, Bool, true, false, not, ◌&&◌, nat_lt, if◌then◌else◌}
 use Rattle.std.specs.Option.{option_map_or}
+use Rattle.iso_lexer.specs.declared.limits.TheConstants.{MAX_STMTS}
 use Rattle.iso_lexer.specs.declared.token.At.{At}
 use Rattle.iso_lexer.specs.declared.sql_token.SqlSign.TheVariants as signs
 use Rattle.sql_trees.specs.declared.fault.SqlFault.{SqlFault}
@@ -138,7 +139,7 @@ module _ (last : ℕ) where
   unfolding piece_at
   piece_kept role ss [] more e less h = subst (λ ts. list_all (is_kept_in role) ts ≡ true) (ok_same ss more e) h
   piece_kept role ss (t ∷ ts) more e less h =
-      let a = when_ok (nat_lt (length ss) 256) (TooMany t.span.start) (whole_at last role (t ∷ ts) >>= λ s. Ok (ss ++ s ∷ [])) more e in
+      let a = when_ok (nat_lt (length ss) MAX_STMTS) (TooMany t.span.start) (whole_at last role (t ∷ ts) >>= λ s. Ok (ss ++ s ∷ [])) more e in
       let s = bind_ok (whole_at last role (t ∷ ts)) (λ s. Ok (ss ++ s ∷ [])) more a.1 in
       subst (λ us. list_all (is_kept_in role) us ≡ true) (ok_same (ss ++ s.0 ∷ []) more s.2) (push_all (is_kept_in role) ss s.0 h (whole_kept role (t ∷ ts) s.0 s.1 less))
 

@@ -4,6 +4,7 @@ use Rattle.std.proofs.lemmas.Bool.{and_parts, lt-ltb}
 use Rattle.std.proofs.lemmas.List.Folds.{list_all-append}
 use Rattle.std.specs.List.{list_all}
 use Rattle.std.specs.Prelude.{Result, Ok, Err, not, ◌&&◌, nat_lt, option_map, if◌then◌else◌}
+use Rattle.iso_lexer.specs.declared.limits.TheConstants.{MAX_STMTS}
 use Rattle.iso_lexer.specs.declared.token.At.{At}
 use Rattle.iso_lexer.specs.declared.sql_token.SqlSign.TheVariants as signs
 use Rattle.sql_trees.specs.declared.fault.SqlFault.{SqlFault}
@@ -86,21 +87,21 @@ module _ (last : ℕ) where
     rest : List StmtTree
     same : more ≡ ss ++ rest
     spells : P ts rest
-    few : length ss ≤ 256 → length more ≤ 256
+    few : length ss ≤ MAX_STMTS → length more ≤ MAX_STMTS
 
   piece_sound : (role : Role) (ss more : List StmtTree) (ts : Tokens) → piece_at last role ss ts ≡ Ok more → Added ss more ts (PieceIs Shallow)
   unfolding piece_at
   piece_sound role ss more [] e =
       let same : ss ≡ more = ok_same ss more e in
-      record { rest = []; same = sym same ∙ sym (append-nil ss); spells = no_stmt; few = λ h. subst (λ (us : List StmtTree). length us ≤ 256) same h }
+      record { rest = []; same = sym same ∙ sym (append-nil ss); spells = no_stmt; few = λ h. subst (λ (us : List StmtTree). length us ≤ MAX_STMTS) same h }
   piece_sound role ss more (t ∷ ts) e =
-      let a = when_ok (nat_lt (length ss) 256) (TooMany t.span.start) (whole_at last role (t ∷ ts) >>= λ s. Ok (ss ++ s ∷ [])) more e in
+      let a = when_ok (nat_lt (length ss) MAX_STMTS) (TooMany t.span.start) (whole_at last role (t ∷ ts) >>= λ s. Ok (ss ++ s ∷ [])) more e in
       let s = bind_ok (whole_at last role (t ∷ ts)) (λ s. Ok (ss ++ s ∷ [])) more a.1 in
       let same : ss ++ s.0 ∷ [] ≡ more = ok_same (ss ++ s.0 ∷ []) more s.2 in
-      let less : length ss < 256 = below (length ss) a.0 in
-      record { rest = s.0 ∷ []; same = sym same; spells = a_stmt (t ∷ ts) s.0 (whole_sound role (t ∷ ts) s.0 s.1); few = λ h. subst (λ (us : List StmtTree). length us ≤ 256) same (omega (arith, less, length-append ss (s.0 ∷ []))) }
+      let less : length ss < MAX_STMTS = below (length ss) a.0 in
+      record { rest = s.0 ∷ []; same = sym same; spells = a_stmt (t ∷ ts) s.0 (whole_sound role (t ∷ ts) s.0 s.1); few = λ h. subst (λ (us : List StmtTree). length us ≤ MAX_STMTS) same (omega (arith, less, length-append ss (s.0 ∷ []))) }
     where
-      below : (n : ℕ) → nat_lt n 256 ≡ true → n < 256
+      below : (n : ℕ) → nat_lt n MAX_STMTS ≡ true → n < MAX_STMTS
       below n h = search rules
 
   -- ---- what is spelled is read
@@ -173,13 +174,13 @@ module _ (last : ℕ) where
   unfolding whole_at stmt_at
   no_tokens role = refl
 
-  pub piece_reads : (role : Role) (ss rs : List StmtTree) (ts : Tokens) → PieceIs Shallow ts rs → list_all (is_kept_in role) rs ≡ true → length ss + length rs ≤ 256 → piece_at last role ss ts ≡ Ok (ss ++ rs)
+  pub piece_reads : (role : Role) (ss rs : List StmtTree) (ts : Tokens) → PieceIs Shallow ts rs → list_all (is_kept_in role) rs ≡ true → length ss + length rs ≤ MAX_STMTS → piece_at last role ss ts ≡ Ok (ss ++ rs)
   unfolding piece_at
   piece_reads role ss _ _ no_stmt h le = ap Ok (sym (append-nil ss))
   piece_reads role ss _ _ (a_stmt ts s q) h le = of_tokens ts (whole_reads role ts s q (and_parts (is_kept_in role s) true h).0)
     where
-      few : nat_lt (length ss) 256 ≡ true
-      few = lt-ltb (length ss) 256 (omega (arith, le))
+      few : nat_lt (length ss) MAX_STMTS ≡ true
+      few = lt-ltb (length ss) MAX_STMTS (omega (arith, le))
 
       of_tokens : (us : Tokens) → whole_at last role us ≡ Ok s → piece_at last role ss us ≡ Ok (ss ++ s ∷ [])
       of_tokens [] e = absurd (no_both s (misplaced last []) (sym e ∙ no_tokens role))
@@ -211,11 +212,11 @@ pub piece_free : (ts : Tokens) (ss : List StmtTree) → PieceIs Shallow ts ss �
 piece_free _ _ no_stmt = refl
 piece_free _ _ (a_stmt ts s q) = stmt_free ts s q
 
-block_reads : (last : ℕ) (role : Role) {ts : Tokens} {rs : List StmtTree} → BlockIs Shallow ts rs → (ss : List StmtTree) → list_all (is_kept_in role) rs ≡ true → length ss + length rs ≤ 256 → stmts_at last role ss [] ts ≡ Ok (ss ++ rs)
+block_reads : (last : ℕ) (role : Role) {ts : Tokens} {rs : List StmtTree} → BlockIs Shallow ts rs → (ss : List StmtTree) → list_all (is_kept_in role) rs ≡ true → length ss + length rs ≤ MAX_STMTS → stmts_at last role ss [] ts ≡ Ok (ss ++ rs)
 block_reads last role (last_piece ts rs p) ss h le = last_of last role ss [] ts (piece_free ts rs p) ∙ piece_reads last role ss rs ts p h le
 block_reads last role (next_piece ts us ps rs c p hc k) ss h le =
     let q = and_parts (list_all (is_kept_in role) ps) (list_all (is_kept_in role) rs) (sym (list_all-append (is_kept_in role) ps rs) ∙ h) in
-    let few : length ss + (length ps + length rs) ≤ 256 = omega (arith, le, length-append ps rs) in
+    let few : length ss + (length ps + length rs) ≤ MAX_STMTS = omega (arith, le, length-append ps rs) in
     let first = piece_reads c.span.start role ss ps ts p q.0 (omega (arith, few)) in
     piece_of last role ss [] ts us c (piece_free ts ps p) hc ∙ rw first (block_reads last role k (ss ++ ps) q.1 (omega (arith, few, length-append ss ps)) ∙ ap Ok (append_assoc ss ps rs))
 
@@ -242,10 +243,10 @@ block_sound last role ss more piece (t ∷ ts) e = of_test (is_sign signs.Semico
 pub blocks_are_read : BlocksAreRead
 blocks_are_read last role ts ss less = (λ e. sound (sym (block_same last role ts) ∙ e), λ b. block_same last role ts ∙ complete b)
   where
-    sound : block_at last role ts ≡ Ok ss → BlockIs Shallow ts ss × (length ss ≤ 256) × (list_all (is_kept_in role) ss ≡ true)
+    sound : block_at last role ts ≡ Ok ss → BlockIs Shallow ts ss × (length ss ≤ MAX_STMTS) × (list_all (is_kept_in role) ss ≡ true)
     sound e =
         let a = block_sound last role [] ss [] ts e in
         (subst (BlockIs Shallow ts) (sym a.same) a.spells, a.few (omega arith), block_kept last role ts ss e less)
 
-    complete : BlockIs Shallow ts ss × (length ss ≤ 256) × (list_all (is_kept_in role) ss ≡ true) → block_at last role ts ≡ Ok ss
+    complete : BlockIs Shallow ts ss × (length ss ≤ MAX_STMTS) × (list_all (is_kept_in role) ss ≡ true) → block_at last role ts ≡ Ok ss
     complete (b, few, kept) = block_reads last role b [] kept (omega (arith, few))

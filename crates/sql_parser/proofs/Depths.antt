@@ -2,6 +2,7 @@
 use Rattle.std.proofs.Common.{◌≡◌, ℕ, suc, ◌+◌, ◌<◌, ◌≤◌, subst, arith}
 use Rattle.std.proofs.lemmas.Bool.{lt-ltb}
 use Rattle.std.specs.Prelude.{Ok, true, max}
+use Rattle.iso_lexer.specs.declared.limits.TheConstants.{MAX_DEPTH}
 use Rattle.sql_trees.specs.Tokens.{Token, Tokens}
 use Rattle.sql_trees.specs.Trees.{Tree, Trees, none, more, Null, Flag, Number, Text, Column, Plus, Minus, Not, Binary, Is, In, Between}
 use Rattle.sql_expressions.specs.Build.{negated, push}
@@ -32,7 +33,7 @@ push_depth (more x xs) e = omega (arith, push_depth xs e)
 
 record Within (depth d : ℕ) : Type 0 where
   as_written : depth ≤ d
-  bounded : d ≤ 64
+  bounded : d ≤ MAX_DEPTH
 
 leaf_depth : (t : Token) (e : Tree) → IsLeaf t e → Within (tree_depth e) 0
 leaf_depth t e (number n) = record { as_written = omega arith; bounded = omega arith }
@@ -45,19 +46,19 @@ leaf_depth t e (null s) = record { as_written = omega arith; bounded = omega ari
 upto : (a b d : ℕ) → a ≤ b → Within b d → Within a d
 upto a b d h w = record { as_written = omega (arith, w.as_written, h); bounded = w.bounded }
 
-node : (a d : ℕ) → Within a d → d < 64 → Within (suc a) (d + 1)
+node : (a d : ℕ) → Within a d → d < MAX_DEPTH → Within (suc a) (d + 1)
 node a d w h = record { as_written = omega (arith, w.as_written); bounded = omega arith }
 
-inside : (a d : ℕ) → Within a d → d < 64 → Within a (d + 1)
+inside : (a d : ℕ) → Within a d → d < MAX_DEPTH → Within a (d + 1)
 inside a d w h = record { as_written = omega (arith, w.as_written); bounded = omega arith }
 
 both : (a b c d : ℕ) → Within a c → Within b d → Within (max a b) (max c d)
 both a b c d v w = record { as_written = omega (arith, v.as_written, w.as_written); bounded = omega (arith, v.bounded, w.bounded) }
 
-node2 : (a b c d : ℕ) → Within a c → Within b d → max c d < 64 → Within (suc (max a b)) (max c d + 1)
+node2 : (a b c d : ℕ) → Within a c → Within b d → max c d < MAX_DEPTH → Within (suc (max a b)) (max c d + 1)
 node2 a b c d v w h = node (max a b) (max c d) (both a b c d v w) h
 
-node3 : (a b x c d y : ℕ) → Within a c → Within b d → Within x y → max c (max d y) < 64 → Within (suc (max a (max b x))) (max c (max d y) + 1)
+node3 : (a b x c d y : ℕ) → Within a c → Within b d → Within x y → max c (max d y) < MAX_DEPTH → Within (suc (max a (max b x))) (max c (max d y) + 1)
 node3 a b x c d y u v w h = node2 a (max b x) c (max d y) u (both b x d y v w) h
 
 mutual
@@ -83,4 +84,4 @@ read_shallow last ts x e =
     let s = bind_ok (expr_at last ts) (λ f. Ok (f.0.tree, f.1)) x e in
     let w = spelled (expr_begins last ts s.0 s.1).spells in
     let same = ok_same (s.0.0.tree, s.0.1) x s.2 in
-    subst (λ (y : Tree × Tokens). is_shallow y.0 ≡ true) same (lt-ltb (tree_depth s.0.0.tree) 65 (omega (arith, w.as_written, w.bounded)))
+    subst (λ (y : Tree × Tokens). is_shallow y.0 ≡ true) same (lt-ltb (tree_depth s.0.0.tree) (suc MAX_DEPTH) (omega (arith, w.as_written, w.bounded)))

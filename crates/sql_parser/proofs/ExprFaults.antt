@@ -1,6 +1,7 @@
 -- An expression that isn't read is refused as Syntax, LeftOut or TooDeep.
 use Rattle.std.proofs.Common.{ap, ◌≡◌, ℕ, zero, suc, ◌+◌, Bool, true, false, List, [], ◌∷◌, length, Option, Some, None, sym, ◌∙◌, subst}
 use Rattle.std.specs.Prelude.{ok_or, Result, Ok, Err, max, nat_lt, if◌then◌else◌}
+use Rattle.iso_lexer.specs.declared.limits.TheConstants.{MAX_DEPTH}
 use Rattle.iso_lexer.specs.declared.token.At.{At}
 use Rattle.iso_lexer.specs.declared.sql_token.SqlSign.TheVariants as signs
 use Rattle.sql_trees.specs.declared.fault.SqlFault.{SqlFault}
@@ -37,7 +38,7 @@ on (Ok x) k h f = f x
 on (Err e) k h f = h
 
 deeper_told : (place d : ℕ) → Told (deeper place d)
-deeper_told place d = of_test (nat_lt d 64)
+deeper_told place d = of_test (nat_lt d MAX_DEPTH)
   where
     of_test : (b : Bool) → Told (if b then Ok (d + 1) else Err (TooDeep place))
     of_test true = tt
@@ -62,7 +63,7 @@ module _ (operand : Reader) (told : (ts : Tokens) → Told (operand ts)) where
 
   chain_told : (op_of : Token → Option Operator) (ts : Tokens) → Told (chain operand op_of ts)
   unfolding chain
-  chain_told op_of ts = on _ _ (told ts) (chain_more_told op_of 64)
+  chain_told op_of ts = on _ _ (told ts) (chain_more_told op_of MAX_DEPTH)
 
   list_turn_told : (go : Found_list → Result Found_list SqlFault) → ((l : Found_list) → Told (go l)) → (o : Option Tokens) (l : Found_list) → Told (list_turn operand go o l)
   list_turn_told go f None l = tt
@@ -253,4 +254,4 @@ module _ (last : ℕ) where
   inside_told (suc n) l place ts = level_told (inside last n) (inside_told n) l ts
 
   pub expr_told : (ts : Tokens) (e : SqlFault) → expr_at last ts ≡ Err e → IsExprFault e
-  expr_told ts e h = subst Told (sym (expr_same last ts) ∙ ap seen h) (or_told (inside last 64) (inside_told 64) ts)
+  expr_told ts e h = subst Told (sym (expr_same last ts) ∙ ap seen h) (or_told (inside last MAX_DEPTH) (inside_told MAX_DEPTH) ts)

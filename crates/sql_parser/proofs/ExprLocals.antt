@@ -2,6 +2,7 @@
 use Rattle.std.proofs.Common.{◌≡◌, ℕ, false, List, [], ◌∷◌, ◌++◌, refl, sym, ap, subst, ◌∙◌}
 use Rattle.std.specs.Prelude.{Result, Ok, Err}
 use Rattle.std.proofs.lemmas.List.{append_cancel_right}
+use Rattle.iso_lexer.specs.declared.limits.TheConstants.{MAX_DEPTH}
 use Rattle.iso_lexer.specs.declared.token.At.{At}
 use Rattle.sql_trees.specs.declared.fault.SqlFault.{SqlFault}
 use Rattle.sql_trees.specs.declared.fault.SqlFault.TheVariants.{Syntax, LeftOut, TooDeep}
@@ -22,7 +23,7 @@ use Rattle.sql_parser.specs.Stops.{in_expression, too_deep}
 use Rattle.sql_parser.proofs.Locals.{Inhabited, Local, took, stopped}
 use Rattle.sql_parser.proofs.ExprFaults.{expr_told}
 
-leaf_spells : (t : At Token) (e : Tree) → IsLeaf t.tok e → SpellsIn 64 64 OR (t ∷ []) e 0
+leaf_spells : (t : At Token) (e : Tree) → IsLeaf t.tok e → SpellsIn MAX_DEPTH MAX_DEPTH OR (t ∷ []) e 0
 leaf_spells t e h =
     let ts = t ∷ [] in
     only OR ts e 0 (only AND ts e 0 (only NOT ts e 0 (only IS ts e 0 (only CMP ts e 0 (only INN ts e 0 (only CAT ts e 0 (only ADD ts e 0 (only MUL ts e 0 (only UNA ts e 0 (literal t e h))))))))))
@@ -31,7 +32,7 @@ pub some_shallow : Inhabited Shallow
 some_shallow = (a_number, Number false 1, (0, leaf_spells (some_token (tok.number 1)) (Number false 1) (number 1)))
 
 pub some_of_any_depth : Inhabited OfAnyDepth
-some_of_any_depth = (a_number, Number false 1, (64, 64, 0, leaf_spells (some_token (tok.number 1)) (Number false 1) (number 1)))
+some_of_any_depth = (a_number, Number false 1, (MAX_DEPTH, MAX_DEPTH, 0, leaf_spells (some_token (tok.number 1)) (Number false 1) (number 1)))
 
 pub shallow_starts : (xs : Tokens) (e : Tree) → Shallow xs e → (t : At Token) × (us : Tokens) × (xs ≡ t ∷ us)
 shallow_starts xs e s = let k = spells_starts s.1 in (k.0, k.1, k.2)
@@ -41,7 +42,7 @@ of_any_depth_starts xs e s = let k = spells_starts s.3 in (k.0, k.1, k.2)
 
 -- any depth will do
 pub deepened : (xs : Tokens) (e : Tree) → Shallow xs e → OfAnyDepth xs e
-deepened xs e s = (64, 64, s.0, s.1)
+deepened xs e s = (MAX_DEPTH, MAX_DEPTH, s.0, s.1)
 
 module _ (last : ℕ) where
   pub one_name : (t : At Token) (n : List ℕ) → Names n t → (e : Tree) × (tree_at last (t ∷ []) ≡ Ok (e, []))
@@ -65,7 +66,7 @@ module _ (last : ℕ) where
           let k = fronts_are_taken last ts f is in
           let b = expr_begins last ts f is in
           let same : b.front ≡ k.front = append_cancel_right b.front k.front f.1 (sym b.whole ∙ k.split) in
-          took f.0.tree k.front f.1 k.split (λ others h. ap (λ r. r >>= λ g. Ok (g.0.tree, g.1)) (k.stays others h)) (up k.front f.0.tree (f.0.depth, subst (λ xs. SpellsIn 64 64 OR xs f.0.tree f.0.depth) same b.spells))
+          took f.0.tree k.front f.1 k.split (λ others h. ap (λ r. r >>= λ g. Ok (g.0.tree, g.1)) (k.stays others h)) (up k.front f.0.tree (f.0.depth, subst (λ xs. SpellsIn MAX_DEPTH MAX_DEPTH OR xs f.0.tree f.0.depth) same b.spells))
       of_result (Err (Syntax p)) is = refused (Syntax p) (refusals_are_first last ts (Syntax p) tt is)
       of_result (Err (LeftOut p)) is = refused (LeftOut p) (refusals_are_first last ts (LeftOut p) tt is)
       of_result (Err (TooDeep p)) is = too_far p (deep_is_first last p ts is)

@@ -4,6 +4,7 @@ use Rattle.std.proofs.lemmas.Bool.{and_parts, and_from}
 use Rattle.std.proofs.lemmas.List.Folds.{list_all-append}
 use Rattle.std.specs.List.{list_all}
 use Rattle.std.specs.Prelude.{Result, Ok, Err, not, nat_lt, if◌then◌else◌}
+use Rattle.iso_lexer.specs.declared.limits.TheConstants.{MAX_STMTS}
 use Rattle.iso_lexer.specs.declared.token.At.{At}
 use Rattle.iso_lexer.specs.declared.sql_token.SqlSign.TheVariants as signs
 use Rattle.sql_trees.specs.declared.fault.SqlFault.{SqlFault}
@@ -126,32 +127,32 @@ never_many last role (t ∷ us) n e = of_test (barred role (t ∷ us)) refl
     of_test true h = other t.span.start n (err_same (DdlInSession t.span.start) (TooMany n) (sym (barred_is last role t us h) ∙ e))
     of_test false h = stmt_fault last role (t ∷ us) (TooMany n) h e
 
-ended_reads : (last : ℕ) (role : Role) {ts : Tokens} {rs : List StmtTree} → EndedAre Shallow ts rs → (ss : List StmtTree) (us : Tokens) → list_all (is_kept_in role) rs ≡ true → length ss + length rs ≤ 256 → stmts_at last role ss [] (ts ++ us) ≡ stmts_at last role (ss ++ rs) [] us
+ended_reads : (last : ℕ) (role : Role) {ts : Tokens} {rs : List StmtTree} → EndedAre Shallow ts rs → (ss : List StmtTree) (us : Tokens) → list_all (is_kept_in role) rs ≡ true → length ss + length rs ≤ MAX_STMTS → stmts_at last role ss [] (ts ++ us) ≡ stmts_at last role (ss ++ rs) [] us
 ended_reads last role no_pieces ss us h le = ap (λ xs. stmts_at last role xs [] us) (sym (append-nil ss))
 ended_reads last role (ended_piece ts vs ps rs c p hc k) ss us h le =
     let q = and_parts (list_all (is_kept_in role) ps) (list_all (is_kept_in role) rs) (sym (list_all-append (is_kept_in role) ps rs) ∙ h) in
-    let few : length ss + (length ps + length rs) ≤ 256 = omega (arith, le, length-append ps rs) in
+    let few : length ss + (length ps + length rs) ≤ MAX_STMTS = omega (arith, le, length-append ps rs) in
     let first = piece_reads c.span.start role ss ps ts p q.0 (omega (arith, few)) in
     ap (stmts_at last role ss []) (append_assoc ts (c ∷ vs) us)
     ∙ (piece_of last role ss [] ts (vs ++ us) c (piece_free ts ps p) hc ∙ rw first (ended_reads last role k (ss ++ ps) us q.1 (omega (arith, few, length-append ss ps)) ∙ ap (λ xs. stmts_at last role xs [] us) (append_assoc ss ps rs)))
 
-piece_full : (last : ℕ) (role : Role) (ss : List StmtTree) (t : At Token) (us : Tokens) → nat_lt (length ss) 256 ≡ false → piece_at last role ss (t ∷ us) ≡ Err (TooMany t.span.start)
+piece_full : (last : ℕ) (role : Role) (ss : List StmtTree) (t : At Token) (us : Tokens) → nat_lt (length ss) MAX_STMTS ≡ false → piece_at last role ss (t ∷ us) ≡ Err (TooMany t.span.start)
 unfolding piece_at
 piece_full last role ss t us h = rw h refl
 
-full_is : (n : ℕ) → n ≡ 256 → nat_lt n 256 ≡ false
+full_is : (n : ℕ) → n ≡ MAX_STMTS → nat_lt n MAX_STMTS ≡ false
 full_is n h = rw h refl
 
-below : (n : ℕ) → nat_lt n 256 ≡ false → n ≤ 256 → n ≡ 256
-below n h le = of_test (nat_lt n 256) refl
+below : (n : ℕ) → nat_lt n MAX_STMTS ≡ false → n ≤ MAX_STMTS → n ≡ MAX_STMTS
+below n h le = of_test (nat_lt n MAX_STMTS) refl
   where
-    least : nat_lt n 256 ≡ false → 256 ≤ n
+    least : nat_lt n MAX_STMTS ≡ false → MAX_STMTS ≤ n
     least g = search rules
 
-    of_test : (b : Bool) → nat_lt n 256 ≡ b → n ≡ 256
+    of_test : (b : Bool) → nat_lt n MAX_STMTS ≡ b → n ≡ MAX_STMTS
     of_test b g = let k = least h in omega (arith, le, k)
 
-full_stops : (last : ℕ) (role : Role) (ss : List StmtTree) (t : At Token) (us : Tokens) → length ss ≡ 256 → is_sign signs.Semicolon t.tok ≡ false → stmts_at last role ss [] (t ∷ us) ≡ Err (TooMany t.span.start)
+full_stops : (last : ℕ) (role : Role) (ss : List StmtTree) (t : At Token) (us : Tokens) → length ss ≡ MAX_STMTS → is_sign signs.Semicolon t.tok ≡ false → stmts_at last role ss [] (t ∷ us) ≡ Err (TooMany t.span.start)
 full_stops last role ss t us full plain = of_split (t ∷ us) refl (split (t ∷ us))
   where
     of_split : (xs : Tokens) → xs ≡ t ∷ us → Split xs → stmts_at last role ss [] (t ∷ us) ≡ Err (TooMany t.span.start)
@@ -177,17 +178,17 @@ record After (role : Role) (ss : List StmtTree) (ts : Tokens) (place : ℕ) : Ty
   begins : is_sign signs.Semicolon first.tok ≡ false
   stmts : List StmtTree
   spells : EndedAre Shallow front stmts
-  full : length ss + length stmts ≡ 256
+  full : length ss + length stmts ≡ MAX_STMTS
   kept : list_all (is_kept_in role) stmts ≡ true
 
 many_place : (m n : ℕ) → ◌≡◌ {A = SqlFault} (TooMany m) (TooMany n) → n ≡ m
 many_place m n h = cc
 
 -- a piece that is refused so begins one statement more
-piece_many : (last : ℕ) (role : Role) (ss : List StmtTree) (piece behind : Tokens) (place : ℕ) → Free piece → length ss ≤ 256 → piece_at last role ss piece ≡ Err (TooMany place) → After role ss (piece ++ behind) place
+piece_many : (last : ℕ) (role : Role) (ss : List StmtTree) (piece behind : Tokens) (place : ℕ) → Free piece → length ss ≤ MAX_STMTS → piece_at last role ss piece ≡ Err (TooMany place) → After role ss (piece ++ behind) place
 unfolding piece_at
 piece_many last role ss [] behind place free le e = absurd (no_both ss (TooMany place) e)
-piece_many last role ss (t ∷ us) behind place free le e = of_test (nat_lt (length ss) 256) refl e
+piece_many last role ss (t ∷ us) behind place free le e = of_test (nat_lt (length ss) MAX_STMTS) refl e
   where
     of_whole : (r : Result StmtTree SqlFault) → (r >>= λ s. Ok (ss ++ s ∷ [])) ≡ Err (TooMany place) → r ≡ Err (TooMany place)
     of_whole (Ok s) h = absurd (no_both (ss ++ s ∷ []) (TooMany place) h)
@@ -200,7 +201,7 @@ piece_many last role ss (t ∷ us) behind place free le e = of_test (nat_lt (len
         of_bool true g = absurd cc
         of_bool false g = refl
 
-    of_test : (b : Bool) → nat_lt (length ss) 256 ≡ b → (if b then (whole_at last role (t ∷ us) >>= λ s. Ok (ss ++ s ∷ [])) else Err (TooMany t.span.start)) ≡ Err (TooMany place) → After role ss ((t ∷ us) ++ behind) place
+    of_test : (b : Bool) → nat_lt (length ss) MAX_STMTS ≡ b → (if b then (whole_at last role (t ∷ us) >>= λ s. Ok (ss ++ s ∷ [])) else Err (TooMany t.span.start)) ≡ Err (TooMany place) → After role ss ((t ∷ us) ++ behind) place
     of_test true h g = absurd (never_many last role (t ∷ us) place (of_whole (whole_at last role (t ∷ us)) g))
     of_test false h g = record {
       front = [];
@@ -220,31 +221,31 @@ record Adds (role : Role) (ss more : List StmtTree) (piece : Tokens) : Type 0 wh
   added : List StmtTree
   same : more ≡ ss ++ added
   spells : PieceIs Shallow piece added
-  few : length more ≤ 256
+  few : length more ≤ MAX_STMTS
   kept : list_all (is_kept_in role) added ≡ true
 
-piece_adds : (last : ℕ) (role : Role) (ss more : List StmtTree) (piece : Tokens) → length piece < 2 ^ 32 → length ss ≤ 256 → piece_at last role ss piece ≡ Ok more → Adds role ss more piece
+piece_adds : (last : ℕ) (role : Role) (ss more : List StmtTree) (piece : Tokens) → length piece < 2 ^ 32 → length ss ≤ MAX_STMTS → piece_at last role ss piece ≡ Ok more → Adds role ss more piece
 unfolding piece_at
 piece_adds last role ss more [] less le e =
     let same : ss ≡ more = ok_same ss more e in
-    record { added = []; same = sym same ∙ sym (append-nil ss); spells = no_stmt; few = subst (λ (us : List StmtTree). length us ≤ 256) same le; kept = refl }
+    record { added = []; same = sym same ∙ sym (append-nil ss); spells = no_stmt; few = subst (λ (us : List StmtTree). length us ≤ MAX_STMTS) same le; kept = refl }
 piece_adds last role ss more (t ∷ ts) less le e =
-    let a = when_ok (nat_lt (length ss) 256) (TooMany t.span.start) (whole_at last role (t ∷ ts) >>= λ s. Ok (ss ++ s ∷ [])) more e in
+    let a = when_ok (nat_lt (length ss) MAX_STMTS) (TooMany t.span.start) (whole_at last role (t ∷ ts) >>= λ s. Ok (ss ++ s ∷ [])) more e in
     let s = bind_ok (whole_at last role (t ∷ ts)) (λ s. Ok (ss ++ s ∷ [])) more a.1 in
     let same : ss ++ s.0 ∷ [] ≡ more = ok_same (ss ++ s.0 ∷ []) more s.2 in
-    let lower : length ss < 256 = lower_than (length ss) a.0 in
+    let lower : length ss < MAX_STMTS = lower_than (length ss) a.0 in
     record {
       added = s.0 ∷ [];
       same = sym same;
       spells = a_stmt (t ∷ ts) s.0 (whole_sound last role (t ∷ ts) s.0 s.1);
-      few = subst (λ (us : List StmtTree). length us ≤ 256) same (omega (arith, lower, length-append ss (s.0 ∷ [])));
+      few = subst (λ (us : List StmtTree). length us ≤ MAX_STMTS) same (omega (arith, lower, length-append ss (s.0 ∷ [])));
       kept = and_from (is_kept_in role s.0) true (whole_kept last role (t ∷ ts) s.0 s.1 less) refl;
     }
   where
-    lower_than : (n : ℕ) → nat_lt n 256 ≡ true → n < 256
+    lower_than : (n : ℕ) → nat_lt n MAX_STMTS ≡ true → n < MAX_STMTS
     lower_than n h = search rules
 
-many_from : (m last : ℕ) (role : Role) (ss : List StmtTree) (ts : Tokens) (place : ℕ) → Split ts → length ts ≤ m → length ts < 2 ^ 32 → length ss ≤ 256 → stmts_at last role ss [] ts ≡ Err (TooMany place) → After role ss ts place
+many_from : (m last : ℕ) (role : Role) (ss : List StmtTree) (ts : Tokens) (place : ℕ) → Split ts → length ts ≤ m → length ts < 2 ^ 32 → length ss ≤ MAX_STMTS → stmts_at last role ss [] ts ≡ Err (TooMany place) → After role ss ts place
 many_from m last role ss _ place (whole ts free) le less few e =
     subst (λ us. After role ss us place) (append-nil ts) (piece_many last role ss ts [] place free few (sym (last_of last role ss [] ts free) ∙ e))
 many_from zero last role ss _ place (ended ts us c free hc) le less few e = absurd (omega (arith, le, length-append ts (c ∷ us)))
@@ -265,7 +266,7 @@ many_from (suc m) last role ss _ place (ended ts us c free hc) le less few e =
       kept = list_all-append (is_kept_in role) a.added b.stmts ∙ and_from (list_all (is_kept_in role) a.added) (list_all (is_kept_in role) b.stmts) a.kept b.kept;
     }
 
-    of_piece : (r : Result (List StmtTree) SqlFault) → piece_at c.span.start role ss ts ≡ r → (r >>= λ more. stmts_at last role more [] us) ≡ Err (TooMany place) → ((more : List StmtTree) → length more ≤ 256 → stmts_at last role more [] us ≡ Err (TooMany place) → After role more us place) → After role ss (ts ++ c ∷ us) place
+    of_piece : (r : Result (List StmtTree) SqlFault) → piece_at c.span.start role ss ts ≡ r → (r >>= λ more. stmts_at last role more [] us) ≡ Err (TooMany place) → ((more : List StmtTree) → length more ≤ MAX_STMTS → stmts_at last role more [] us ≡ Err (TooMany place) → After role more us place) → After role ss (ts ++ c ∷ us) place
     of_piece (Ok more) is h go =
         let a = piece_adds c.span.start role ss more ts (omega (arith, less, length-append ts (c ∷ us))) few is in
         behind more a (go more a.few h)

@@ -1,6 +1,7 @@
 -- To be believed. Statements and blocks.
 use Rattle.std.specs.Prelude.{ℕ, zero, suc, ◌&&◌, ◌||◌, List, [], ◌∷◌, ◌++◌, map, filter, None, Result, Ok, Err}
 use Rattle.std.specs.List.{slice_split, zip}
+use Rattle.iso_lexer.specs.declared.limits.TheConstants.{MAX_STMTS}
 use Rattle.iso_lexer.specs.declared.sql_token.SqlSign.TheVariants as signs
 use Rattle.sql_trees.specs.declared.fault.SqlFault.{SqlFault}
 use Rattle.sql_trees.specs.declared.fault.SqlFault.TheVariants.{TooMany, DdlInSession}
@@ -48,4 +49,4 @@ stmts_at role (suc n) ((t ∷ ts, end) ∷ ps) = if_ok (whole_at end role (t ∷
 
 -- the statements of a block, 256 at most
 abbrev pub block_at : ℕ → Role → Tokens → Result (List StmtTree) SqlFault
-block_at last role ts = stmts_at role 256 (pieces last ts)
+block_at last role ts = stmts_at role MAX_STMTS (pieces last ts)

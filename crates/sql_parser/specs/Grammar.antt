@@ -1,6 +1,7 @@
 -- The grammar of statements and blocks: which tokens spell which trees. Above each rule stands what is kept of the synopsis on the command's page of
 -- PostgreSQL 17's manual; numbers are sections of it. E says which tokens spell an expression.
 use Rattle.std.specs.Prelude.{◌≡◌, ℕ, Bool, true, false, ◌||◌, List, [], ◌∷◌, ◌++◌, length, Option, Some, None, option_map}
+use Rattle.iso_lexer.specs.declared.limits.TheConstants.{MAX_DEPTH}
 use Rattle.iso_lexer.specs.declared.token.At.{At}
 use Rattle.iso_lexer.specs.Bytes.{row_of}
 use Rattle.iso_lexer.specs.declared.sql_token.SqlSign.{SqlSign}
@@ -391,7 +392,7 @@ pub data EndedAre (E : Tokens → Tree → Type 0) : Tokens → List StmtTree �
 
 -- the tokens spell the expression, no deeper than 64 and with no more than 64 openings within one another
 abbrev pub Shallow : Tokens → Tree → Type 0
-Shallow tokens tree = (depth : ℕ) × SpellsIn 64 64 OR tokens tree depth
+Shallow tokens tree = (depth : ℕ) × SpellsIn MAX_DEPTH MAX_DEPTH OR tokens tree depth
 
 -- the tokens spell the expression, whatever its depth
 abbrev pub OfAnyDepth : Tokens → Tree → Type 0

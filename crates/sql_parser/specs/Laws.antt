@@ -1,5 +1,6 @@
 -- What is so of every list of tokens.
 use Rattle.std.specs.Prelude.{◌≡◌, ◌↔◌, ◌<◌, ◌≤◌, ◌^◌, [], ◌∷◌, ◌++◌, ℕ, true, false, List, length, Some, Ok, Err}
+use Rattle.iso_lexer.specs.declared.limits.TheConstants.{MAX_STMTS}
 use Rattle.iso_lexer.specs.declared.token.At.{At}
 use Rattle.std.specs.List.{list_all}
 use Rattle.iso_lexer.specs.declared.sql_token.SqlSign.TheVariants as signs
@@ -20,7 +21,7 @@ use Rattle.sql_parser.specs.Stops.{Refuses, WantsWords, IsStop}
 -- The tokens are read as these statements exactly where they spell them, there are 256 at most, and each is one that a block keeps.
 abbrev pub BlocksAreRead : Type 0
 BlocksAreRead = (last : ℕ) (role : Role) (ts : Tokens) (ss : List StmtTree) → length ts < 2 ^ 32 →
-    (block_at last role ts ≡ Ok ss) ↔ (BlockIs Shallow ts ss × (length ss ≤ 256) × (list_all (is_kept_in role) ss ≡ true))
+    (block_at last role ts ≡ Ok ss) ↔ (BlockIs Shallow ts ss × (length ss ≤ MAX_STMTS) × (list_all (is_kept_in role) ss ≡ true))
 
 -- some statement begins with these tokens, whatever its depth and its names
 abbrev pub BeginsStatement : Tokens → Type 0
@@ -96,7 +97,7 @@ pub record BeginsOneMore (role : Role) (ts : Tokens) (place : ℕ) : Type 0 wher
   pub begins : is_sign signs.Semicolon first.tok ≡ false
   pub stmts : List StmtTree
   pub spells : EndedAre Shallow front stmts
-  pub full : length stmts ≡ 256
+  pub full : length stmts ≡ MAX_STMTS
   pub kept : list_all (is_kept_in role) stmts ≡ true
 
 -- A block is refused as TooMany exactly there.

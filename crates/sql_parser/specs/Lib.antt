@@ -4,9 +4,9 @@ pub mod Tables
 pub mod Changes
 pub mod Queries
 pub mod Blocks
-pub mod Views
 pub mod Texts
 pub mod Grammar
 pub mod Stops
 pub mod Laws
+pub mod Code
 pub mod Inner

@@ -1,6 +1,7 @@
 //! Blocks of statements.
 
 ghost use Rattle.std.specs.Prelude.{◌≡◌, ◌<◌, ◌≤◌, ◌^◌, [], Ok, IfOk, length, map, IfSome, vec_len, option_map};
+ghost use Rattle.iso_lexer.specs.declared.limits.TheConstants.{MAX_STMTS};
 ghost use Rattle.iso_lexer.specs.declared.sql_token.SqlSign.TheVariants as signs;
 ghost use Rattle.sql_trees.specs.Statements.{stmt_of};
 ghost use Rattle.sql_trees.specs.Tokens.{tok_view, tok_views};
@@ -84,7 +85,7 @@ fn with_piece<'a>(
 ) -> Result<Vec<Stmt<'a>>, SqlFault>
     requires { length piece.now < 2 ^ 32 }
     ensures exact { Gives (λ v. map stmt_of v.items) result (piece_at parser.text_len role (map stmt_of stmts.entry.items) (tok_views piece.now)) }
-    ensures few { vec_len stmts.entry ≤ 256 → IfOk result (λ v. vec_len v ≤ 256) }
+    ensures few { vec_len stmts.entry ≤ MAX_STMTS → IfOk result (λ v. vec_len v ≤ MAX_STMTS) }
 {
     let [token, ..] = piece else { return Ok(stmts) };
     if stmts.len() >= MAX_STMTS {
@@ -111,7 +112,7 @@ fn read_stmts<'a>(
 ) -> Result<Vec<Stmt<'a>>, SqlFault>
     requires { length tokens.now < 2 ^ 32 }
     ensures exact { Gives (λ v. map stmt_of v.items) result (block_at parser.text_len role (tok_views tokens.now)) }
-    ensures few { IfOk result (λ v. vec_len v ≤ 256) }
+    ensures few { IfOk result (λ v. vec_len v ≤ MAX_STMTS) }
 {
     let (mut stmts, mut rest) = nothing_read(parser, tokens);
     while let Some((piece, place, behind)) = next_piece(rest) {

@@ -7,7 +7,7 @@ ghost use Rattle.sql_expressions.specs.Results.{Gives};
 ghost use Rattle.sql_expressions.specs.Readers.{items_at, name_at, added};
 ghost use Rattle.sql_parser.specs.Readers.{tree_at};
 ghost use Rattle.sql_parser.specs.Inner.Changes.{distinct_add, row_add};
-ghost use Rattle.sql_parser.specs.Views.{rows_view};
+ghost use Rattle.sql_parser.specs.Code.Views.{rows_view};
 
 use crate::list::{List, items};
 use crate::part::{close, expr, is_among, name, open};

@@ -10,7 +10,7 @@ ghost use Rattle.sql_parser.specs.Tables.{has_name, placed_names, drop_at};
 ghost use Rattle.sql_parser.specs.Grammar.{empty_table, kind_of};
 ghost use Rattle.sql_parser.specs.Inner.Tables.{kind_at, key_add, key_at, limits_at, column_behind, column_read, table_add, after_if};
 ghost use Rattle.sql_parser.specs.Inner.OneConstraint.{is_constraint, constraint_at, constrained};
-ghost use Rattle.sql_parser.specs.Views.{placed_of, key_text_of, table_text_of};
+ghost use Rattle.sql_parser.specs.Code.Views.{placed_of, key_text_of, table_text_of};
 
 use crate::list::{List, items};
 use crate::names::{NameList, names};

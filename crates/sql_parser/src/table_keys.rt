@@ -11,7 +11,7 @@ ghost use Rattle.sql_parser.specs.Inner.Calls.{seen};
 ghost use Rattle.sql_parser.specs.Inner.Pieces.{is_kept_key, resolved_keys};
 ghost use Rattle.sql_parser.specs.Tables.{has_name, completed, placed_names, resolved};
 ghost use Rattle.sql_parser.specs.Inner.Tables.{made_name, first_lacking, text_fault, keys_fault, place_among, finished, create_at};
-ghost use Rattle.sql_parser.specs.Views.{placed_of, key_text_of, table_text_of};
+ghost use Rattle.sql_parser.specs.Code.Views.{placed_of, key_text_of, table_text_of};
 
 use crate::part::{close, keyword, name, open};
 use crate::statement::ReadWhole;

@@ -4,7 +4,7 @@ use Rattle.session_machine.specs.declared.reply.HistItem.{HistItem}
 use Rattle.session_machine.specs.Machine.{session_of}
 use Rattle.report_lines.specs.Starts.{is_order}
 use Rattle.report_lines.specs.History.{PermutationRun}
-use Rattle.report_lines.specs.Places.{starts_from}
+use Rattle.report_lines.specs.Code.Places.{starts_from}
 
 -- these are the places of the history's orders
 pub record IsFound (items : List HistItem) (starts : List ℕ) : Type 0 where

@@ -5,7 +5,7 @@ use Rattle.session_machine.specs.declared.reply.HistItem.{HistItem}
 use Rattle.report_lines.specs.Starts.{is_order}
 use Rattle.report_lines.specs.History.{PermutationRun}
 use Rattle.report_lines.specs.Due.{orders}
-use Rattle.report_lines.specs.Progress.{first_items}
+use Rattle.report_lines.specs.Code.Progress.{first_items}
 use Rattle.report_lines.specs.Inner.Places.{starts_after, ends_after}
 
 -- the lines of the last segment, if it is an entry's, are missing

@@ -7,9 +7,9 @@ use Rattle.report_lines.specs.declared.history.Moment.{Moment}
 use Rattle.report_lines.specs.declared.lines_so_far.Chosen.{Chosen}
 use Rattle.report_lines.specs.declared.lines_so_far.Chosen.TheVariants.{Joined, Own}
 use Rattle.report_lines.specs.History.{PermutationRun}
-use Rattle.report_lines.specs.Walk.{is_star, markers_of}
+use Rattle.report_lines.specs.Code.Walk.{is_star, markers_of}
 use Rattle.report_lines.specs.Report.{active}
-use Rattle.report_lines.specs.Walk.{is_of, can_report, try_again}
+use Rattle.report_lines.specs.Code.Walk.{is_of, can_report, try_again}
 
 -- the entries before this one, in order
 abbrev pub instances : ℕ → List ℕ

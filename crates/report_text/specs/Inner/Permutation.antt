@@ -9,9 +9,9 @@ use Rattle.report_text.specs.Steps.{starting_text}
 use Rattle.report_text.specs.LineText.{line_text}
 use Rattle.report_text.specs.Replies.{rows_text, last_outcome}
 use Rattle.report_text.specs.Said.{Said, only_ends, says, ◌>>◌}
-use Rattle.report_text.specs.Turns.{setup_numbers, setup_ending}
-use Rattle.report_text.specs.Turns.{teardown_numbers}
-use Rattle.report_text.specs.Turns.{state_says}
+use Rattle.report_text.specs.Code.Turns.{setup_numbers, setup_ending}
+use Rattle.report_text.specs.Code.Turns.{teardown_numbers}
+use Rattle.report_text.specs.Code.Turns.{state_says}
 use Rattle.report_text.specs.Inner.Teardowns.{teardowns_say}
 
 -- the setups from a segment on, of which so many segments are there: the table of each one's last reply, up to one that did not go well

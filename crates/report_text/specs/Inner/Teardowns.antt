@@ -5,7 +5,7 @@ use Rattle.spec_parser.specs.Trees.{SessionTree, SpecTree}
 use Rattle.report_lines.specs.Due.{segment, is_over}
 use Rattle.report_text.specs.Replies.{rows_text, last_outcome}
 use Rattle.report_text.specs.Said.{whole, Said, says, ◌>>◌}
-use Rattle.report_text.specs.Turns.{session_numbers}
+use Rattle.report_text.specs.Code.Turns.{session_numbers}
 use Rattle.report_text.specs.Teardowns.{note, failure_note}
 
 -- what a teardown says of its segment

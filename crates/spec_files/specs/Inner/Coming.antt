@@ -5,11 +5,11 @@ use Rattle.spec_parser.specs.declared.tree.Entry.{Entry}
 use Rattle.spec_files.specs.declared.draft.Draft.{Draft}
 use Rattle.spec_files.specs.declared.side_by_side.Coming.{Coming}
 use Rattle.spec_files.specs.declared.side_by_side.Coming.TheVariants.{There, Running}
-use Rattle.spec_files.specs.Drafts.{AreDrafts, HasRoomFor, listed}
+use Rattle.spec_files.specs.Drafts.{AreDrafts, HasRoomFor, entries_read}
 
 -- the entries of the permutations that have run, or run
 abbrev pub coming_entries : {L : Type 0} → Coming L → List (Vec Entry)
-coming_entries (There drafts) = map listed drafts.items
+coming_entries (There drafts) = map entries_read drafts.items
 coming_entries (Running thread) = thread.promise.taken.value.items
 
 -- the entries of all of them, one after the other

@@ -1,6 +1,7 @@
 -- Reading as the code does it: it has counts of what stands before, and tells what stops it apart from where it stops; the place is put in behind all.
 use Rattle.std.specs.Prelude.{ℕ, zero, suc, Bool, true, false, List, [], ◌∷◌, length, ◌+◌, nat_lt, Option, Some, None, unwrap_or, Result, Ok, Err, if◌then◌else◌}
 use Rattle.std.specs.Option.{option_map_or}
+use Rattle.iso_lexer.specs.declared.limits.TheConstants.{MOST_ENTRIES, MOST_SESSIONS, MOST_STEPS}
 use Rattle.iso_lexer.specs.declared.token.At.{At}
 use Rattle.iso_lexer.specs.declared.spec_token.Keyword.{Keyword}
 use Rattle.iso_lexer.specs.declared.spec_token.Keyword.TheVariants.{Permutation, Session, Setup, Step, Teardown, Notices}
@@ -118,12 +119,12 @@ maybe_block k = maybe_at (starts (is_keyword k)) (block_after k)
 
 -- "step" name block; a file has at most 1,000
 unfoldable pub step_at : StoppingReader (StepOf NameAt)
-step_at r = (word Step >> name_within r.0.steps 1000 >>= λ n. block_next >>= λ b. gives (record { name = n; part = b })) r
+step_at r = (word Step >> name_within r.0.steps MOST_STEPS >>= λ n. block_next >>= λ b. gives (record { name = n; part = b })) r
 
 -- "session" name ["setup" block] step+ ["teardown" block]; a file has at most 64
 unfoldable pub session_at : StoppingReader (SessionOf NameAt)
 session_at r = (word Session >> do
-  n ← name_within r.0.sessions 64
+  n ← name_within r.0.sessions MOST_SESSIONS
   setup ← maybe_block Setup
   steps ← some_at what.Step (starts (is_keyword Step)) (λ k. step_at)
   gives (record { name = n; setup = setup; steps = steps; teardown = (← maybe_block Teardown) })) r
@@ -146,7 +147,7 @@ markers_at = next_token (is_mark Open) what.Item >> do
 
 -- name [markers], behind k other entries; a permutation has at most 1,000
 unfoldable pub entry_at : ℕ → StoppingReader NamedEntry
-entry_at k = name_within k 1000 >>= λ n. maybe_at (starts (is_mark Open)) markers_at >>= λ ms. gives (record { name = n; markers = unwrap_or ms [] })
+entry_at k = name_within k MOST_ENTRIES >>= λ n. maybe_at (starts (is_mark Open)) markers_at >>= λ ms. gives (record { name = n; markers = unwrap_or ms [] })
 
 -- "permutation" entry+
 unfoldable pub perm_at : StoppingReader (List NamedEntry)

@@ -1,5 +1,6 @@
 -- Expressions as the code's functions read them, piece by piece: each piece reads what the words of Reading do.
 use Rattle.std.specs.Prelude.{ℕ, zero, suc, ◌+◌, max, Bool, true, false, List, [], ◌∷◌, length, Option, Some, None, Result, Ok, Err, nat_lt, if◌then◌else◌}
+use Rattle.iso_lexer.specs.declared.limits.TheConstants.{MAX_DEPTH}
 use Rattle.iso_lexer.specs.declared.token.At.{At}
 use Rattle.iso_lexer.specs.declared.sql_token.SqlSign.TheVariants as signs
 use Rattle.sql_trees.specs.declared.fault.SqlFault.{SqlFault}
@@ -90,7 +91,7 @@ is_is _ = false
 
 -- the depth of a node over this deepest part, which the token at this place makes
 abbrev pub deeper : ℕ → ℕ → Result ℕ SqlFault
-deeper place d = if nat_lt d 64 then Ok (d + 1) else Err (TooDeep place)
+deeper place d = if nat_lt d MAX_DEPTH then Ok (d + 1) else Err (TooDeep place)
 
 -- an operator, where it stands, and the tokens after it
 pub record Found_op : Type 0 where
@@ -141,7 +142,7 @@ chain_more operand op_of (suc n) a = chain_turn operand (chain_more operand op_o
 unfoldable pub chain : Reader → (Token → Option Operator) → Reader
 chain operand op_of ts = do
   a ← operand ts
-  chain_more operand op_of 64 a
+  chain_more operand op_of MAX_DEPTH a
 
 -- trees in a list, the deepest one's depth, and the tokens after them
 pub record Found_list : Type 0 where

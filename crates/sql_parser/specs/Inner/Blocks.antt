@@ -1,6 +1,7 @@
 -- Statements and blocks as the code reads them.
 use Rattle.std.specs.Prelude.{ℕ, ◌&&◌, List, [], ◌∷◌, ◌++◌, length, Result, Ok, Err, nat_lt, if◌then◌else◌}
 use Rattle.std.specs.Option.{option_map_or}
+use Rattle.iso_lexer.specs.declared.limits.TheConstants.{MAX_STMTS}
 use Rattle.iso_lexer.specs.declared.token.At.{At}
 use Rattle.iso_lexer.specs.declared.sql_token.SqlSign.TheVariants as signs
 use Rattle.sql_trees.specs.declared.fault.SqlFault.{SqlFault}
@@ -59,7 +60,7 @@ module _ (last : ℕ) where
   -- what stands between two semicolons, the second of them or the text's end at last: nothing or one more statement, of which a block has at most 256
   unfoldable pub piece_at : Role → List StmtTree → Tokens → Result (List StmtTree) SqlFault
   piece_at role ss [] = Ok ss
-  piece_at role ss (t ∷ ts) = if nat_lt (length ss) 256 then (whole_at role (t ∷ ts) >>= λ s. Ok (ss ++ s ∷ [])) else Err (TooMany t.span.start)
+  piece_at role ss (t ∷ ts) = if nat_lt (length ss) MAX_STMTS then (whole_at role (t ∷ ts) >>= λ s. Ok (ss ++ s ∷ [])) else Err (TooMany t.span.start)
 
 -- the statements of a block behind these, where piece is what has passed since the last semicolon
 unfoldable pub stmts_at : ℕ → Role → List StmtTree → Tokens → Tokens → Result (List StmtTree) SqlFault

@@ -5,7 +5,7 @@ use Rattle.session_machine.specs.declared.event.Order.TheVariants.{Stop}
 use Rattle.session_machine.specs.declared.reply.HistItem.{HistItem}
 use Rattle.spec_parser.specs.Trees.{entry_view}
 use Rattle.permutation_plans.specs.Launches.{due_after}
-use Rattle.permutation_plans.specs.Fits.{FitsAfter}
+use Rattle.permutation_plans.specs.Code.Fits.{FitsAfter}
 use Rattle.permutation_plans.proofs.Following.{at_the_end}
 use Rattle.permutation_plans.proofs.fit.fits.Goals as goal
 

@@ -1,8 +1,8 @@
 use Rattle.std.proofs.Common.{◌↔◌, [], map, take, drop}
 use Rattle.spec_parser.specs.Trees.{entry_view}
-use Rattle.report_lines.specs.Progress.{KeepsFront}
+use Rattle.report_lines.specs.Code.Progress.{KeepsFront}
 use Rattle.permutation_plans.specs.Launches.{run_of, due_after}
-use Rattle.permutation_plans.specs.Fits.{FitsAfter}
+use Rattle.permutation_plans.specs.Code.Fits.{FitsAfter}
 use Rattle.permutation_plans.proofs.fit.fits.Given as goal
 
 abbrev pub invariant-loop-place : goal.invariant-loop-place

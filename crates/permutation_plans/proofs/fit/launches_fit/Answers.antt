@@ -3,7 +3,7 @@ use Rattle.std.proofs.lemmas.Result.{IfOk-weaker}
 use Rattle.spec_parser.specs.Trees.{entry_view, spec_view}
 use Rattle.report_lines.specs.Due.{Launches as Listed}
 use Rattle.permutation_plans.specs.Launches.{due_after, due_in}
-use Rattle.permutation_plans.specs.Fits.{FitsAfter}
+use Rattle.permutation_plans.specs.Code.Fits.{FitsAfter}
 use Rattle.permutation_plans.specs.Regular.{LaunchesFit}
 use Rattle.permutation_plans.proofs.Next.{fits_so}
 use Rattle.permutation_plans.proofs.fit.launches_fit.Goals as goal

@@ -1,6 +1,6 @@
 use Rattle.std.proofs.Common.{◌≡◌, drop}
 use Rattle.std.specs.List.{list_any}
-use Rattle.report_lines.specs.Walk.{is_star}
+use Rattle.report_lines.specs.Code.Walk.{is_star}
 use Rattle.report_lines.proofs.entries.is_starred.Given as goal
 
 abbrev pub invariant-loop-marker : goal.invariant-loop-marker

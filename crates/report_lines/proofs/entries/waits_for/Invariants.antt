@@ -1,7 +1,7 @@
 use Rattle.std.proofs.Common.{◌≡◌, drop}
 use Rattle.std.specs.List.{list_any}
 use Rattle.spec_parser.specs.Trees.{entry_view}
-use Rattle.report_lines.specs.Walk.{names}
+use Rattle.report_lines.specs.Code.Walk.{names}
 use Rattle.report_lines.proofs.entries.waits_for.Given as goal
 
 abbrev pub invariant-loop-marker : goal.invariant-loop-marker

@@ -1,7 +1,7 @@
 use Rattle.std.proofs.Common.{◌-◌, ◌∙◌, subst}
 use Rattle.report_lines.specs.History.{PermutationRun}
 use Rattle.report_lines.specs.Due.{orders}
-use Rattle.report_lines.specs.Progress.{IsSettled}
+use Rattle.report_lines.specs.Code.Progress.{IsSettled}
 use Rattle.report_lines.proofs.Keeping.{settled_tells}
 use Rattle.report_lines.proofs.Same.{report_is}
 use Rattle.report_lines.proofs.progress.report.Goals as goal

@@ -1,5 +1,5 @@
 use Rattle.std.proofs.Common.{◌≡◌, ◌++◌, drop}
-use Rattle.report_lines.specs.Places.{starts_from}
+use Rattle.report_lines.specs.Code.Places.{starts_from}
 use Rattle.report_lines.proofs.segments.starts.Given as goal
 
 abbrev pub invariant-loop-place : goal.invariant-loop-place

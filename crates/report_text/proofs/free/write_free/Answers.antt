@@ -2,7 +2,7 @@ use Rattle.std.proofs.Common.{subst, sym, ap, ◌∙◌}
 use Rattle.spec_parser.specs.Trees.{spec_view}
 use Rattle.report_lines.specs.Due.{orders}
 use Rattle.report_text.specs.Said.{Said, Ending}
-use Rattle.report_text.specs.Turns.{setup_numbers}
+use Rattle.report_text.specs.Code.Turns.{setup_numbers}
 use Rattle.report_text.specs.FreeText.{free_says}
 use Rattle.report_text.specs.Answers.{EndsAs}
 use Rattle.report_text.proofs.Blocks.{setups_are}

@@ -2,7 +2,7 @@ use Rattle.std.proofs.Common.{◌≡◌, ℕ, ◌+◌, ◌++◌, drop}
 use Rattle.std.specs.Prelude.{map, is_some}
 use Rattle.std.specs.List.{enumerate_from, filter}
 use Rattle.spec_parser.specs.Trees.{SessionTree, session_view}
-use Rattle.report_text.specs.Turns.{session_numbers}
+use Rattle.report_text.specs.Code.Turns.{session_numbers}
 use Rattle.report_text.proofs.numbers.add_setups.Given as goal
 
 abbrev pub invariant-loop-index : goal.invariant-loop-index

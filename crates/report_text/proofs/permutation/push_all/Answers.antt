@@ -2,9 +2,9 @@ use Rattle.std.proofs.Common.{◌≡◌, false, sym, ap, ◌∙◌}
 use Rattle.spec_parser.specs.Trees.{spec_view}
 use Rattle.report_lines.specs.Due.{orders}
 use Rattle.report_text.specs.Said.{whole}
-use Rattle.report_text.specs.Turns.{is_whole}
+use Rattle.report_text.specs.Code.Turns.{is_whole}
 use Rattle.report_text.specs.Steps.{starting_text}
-use Rattle.report_text.specs.Turns.{setup_numbers}
+use Rattle.report_text.specs.Code.Turns.{setup_numbers}
 use Rattle.report_text.specs.Inner.Permutation.{setups_say, rest_says, all_says}
 use Rattle.report_text.specs.Answers.{ending_of}
 use Rattle.report_text.proofs.Saying.{setups_notes, text_well, notes_well, ends_well, text_early, notes_early, ends_early, ended}

@@ -5,7 +5,7 @@ use Rattle.session_machine.specs.declared.reply.HistItem.{HistItem}
 use Rattle.spec_parser.specs.Trees.{entry_view, spec_view}
 use Rattle.report_lines.specs.Due.{orders}
 use Rattle.report_text.specs.Said.{Said, whole}
-use Rattle.report_text.specs.Turns.{teardown_numbers}
+use Rattle.report_text.specs.Code.Turns.{teardown_numbers}
 use Rattle.report_text.specs.Inner.Teardowns.{teardowns_say, teardowns_in_turn}
 use Rattle.report_text.specs.Inner.Permutation.{entries_say}
 use Rattle.report_text.specs.Answers.{ending_of}

@@ -2,7 +2,7 @@ use Rattle.std.proofs.Common.{◌≡◌, ℕ, ◌++◌, length, sym, ap, ◌∙�
 use Rattle.std.specs.Prelude.{map}
 use Rattle.report_lines.specs.History.{PermutationRun}
 use Rattle.spec_parser.specs.Trees.{entry_view, spec_view}
-use Rattle.report_text.specs.Turns.{setup_numbers}
+use Rattle.report_text.specs.Code.Turns.{setup_numbers}
 use Rattle.report_text.specs.Said.{Said}
 use Rattle.report_text.specs.Inner.Permutation.{all_says}
 use Rattle.report_text.proofs.Counting.{orders-le}

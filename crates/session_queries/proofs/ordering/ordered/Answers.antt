@@ -4,7 +4,7 @@ use Rattle.sql_values.specs.Values.{each}
 use Rattle.query_results.specs.Ordering.{rows_at}
 use Rattle.query_results.specs.Queries.{by_keys}
 use Rattle.query_results.specs.Inner.Pieces.{keys_of}
-use Rattle.session_queries.specs.Fronts.{AnswersList}
+use Rattle.session_queries.specs.Code.Fronts.{AnswersList}
 use Rattle.session_queries.proofs.Picking.{sorted_within}
 use Rattle.session_queries.proofs.Taking.{ordered_answer}
 use Rattle.session_queries.proofs.ordering.ordered.Goals as goal

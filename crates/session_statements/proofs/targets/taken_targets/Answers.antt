@@ -5,7 +5,7 @@ use Rattle.sql_trees.specs.Statements.{column_of, select_of}
 use Rattle.sql_values.specs.declared.row.Row.{Row}
 use Rattle.row_versions.specs.declared.write.Seen.{Seen}
 use Rattle.row_versions.specs.Log.{values_at}
-use Rattle.session_queries.specs.Fronts.{AnswersList}
+use Rattle.session_queries.specs.Code.Fronts.{AnswersList}
 use Rattle.query_results.specs.Queries.{taken}
 use Rattle.session_machine.specs.Rows.{columns_in}
 use Rattle.session_machine.specs.Targets.{at_places}

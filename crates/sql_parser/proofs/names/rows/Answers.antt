@@ -1,5 +1,5 @@
 use Rattle.sql_parser.proofs.Lists.{items_give}
-use Rattle.sql_parser.specs.Views.{rows_view}
+use Rattle.sql_parser.specs.Code.Views.{rows_view}
 use Rattle.sql_parser.specs.Inner.Changes.{row_add}
 use Rattle.sql_parser.proofs.names.rows.Goals as goal
 

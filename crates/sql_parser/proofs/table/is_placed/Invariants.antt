@@ -1,6 +1,6 @@
 use Rattle.std.proofs.Common.{◌≡◌, length, map}
 use Rattle.sql_parser.specs.Tables.{has_name, placed_names}
-use Rattle.sql_parser.specs.Views.{placed_of}
+use Rattle.sql_parser.specs.Code.Views.{placed_of}
 use Rattle.sql_trees.specs.Statements.{name_of}
 use Rattle.sql_parser.proofs.table.is_placed.Given as goal
 

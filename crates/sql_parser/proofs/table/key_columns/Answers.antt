@@ -1,6 +1,6 @@
 use Rattle.std.proofs.Common.{map}
 use Rattle.sql_parser.proofs.Lists.{items_give}
-use Rattle.sql_parser.specs.Views.{placed_of}
+use Rattle.sql_parser.specs.Code.Views.{placed_of}
 use Rattle.sql_parser.specs.Inner.Tables.{key_add}
 use Rattle.sql_parser.proofs.table.key_columns.Goals as goal
 

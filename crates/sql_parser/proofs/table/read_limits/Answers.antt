@@ -1,7 +1,7 @@
 use Rattle.std.proofs.Common.{arith, rules, map}
 use Rattle.std.proofs.lemmas.Result.{err_from_is_err_and}
 use Rattle.sql_trees.specs.Tokens.{tok_views}
-use Rattle.sql_parser.specs.Views.{key_text_of}
+use Rattle.sql_parser.specs.Code.Views.{key_text_of}
 use Rattle.sql_parser.proofs.Lists.{fails_on, views_fewer}
 use Rattle.sql_parser.proofs.Going.{going_from, going_ends, going_stops, going_on, limits_done, limits_stop}
 use Rattle.sql_parser.proofs.table.read_limits.Goals as goal

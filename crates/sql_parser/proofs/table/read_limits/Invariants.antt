@@ -1,6 +1,6 @@
 use Rattle.std.proofs.Common.{◌≤◌, length, map, false}
 use Rattle.sql_parser.specs.Inner.Tables.{constraints_at}
-use Rattle.sql_parser.specs.Views.{placed_of, key_text_of}
+use Rattle.sql_parser.specs.Code.Views.{placed_of, key_text_of}
 use Rattle.sql_trees.specs.Tokens.{tok_views}
 use Rattle.sql_parser.proofs.Going.{Going}
 use Rattle.sql_parser.proofs.table.read_limits.Given as goal

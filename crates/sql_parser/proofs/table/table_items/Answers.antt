@@ -1,5 +1,5 @@
 use Rattle.sql_parser.proofs.Lists.{items_give}
-use Rattle.sql_parser.specs.Views.{table_text_of}
+use Rattle.sql_parser.specs.Code.Views.{table_text_of}
 use Rattle.sql_parser.specs.Inner.Tables.{table_add}
 use Rattle.sql_parser.proofs.table.table_items.Goals as goal
 

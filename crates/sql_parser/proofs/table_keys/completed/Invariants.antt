@@ -1,6 +1,6 @@
 use Rattle.std.proofs.Common.{◌≡◌, ◌++◌, length, map}
 use Rattle.sql_parser.specs.Tables.{completed}
-use Rattle.sql_parser.specs.Views.{key_text_of}
+use Rattle.sql_parser.specs.Code.Views.{key_text_of}
 use Rattle.sql_trees.specs.Statements.{column_of}
 use Rattle.sql_parser.proofs.table_keys.completed.Given as goal
 

@@ -5,7 +5,7 @@ use Rattle.sql_parser.specs.Inner.Pieces.{resolved_keys}
 use Rattle.sql_parser.specs.Inner.Tables.{keys_fault, declared, finished}
 use Rattle.sql_parser.proofs.Created.{created_is}
 use Rattle.sql_parser.specs.Tables.{completed}
-use Rattle.sql_parser.specs.Views.{key_text_of, table_text_of}
+use Rattle.sql_parser.specs.Code.Views.{key_text_of, table_text_of}
 use Rattle.sql_parser.proofs.table_keys.finished.Goals as goal
 
 pub returns : goal.returns

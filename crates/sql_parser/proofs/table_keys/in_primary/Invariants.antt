@@ -2,7 +2,7 @@ use Rattle.std.proofs.Common.{◌≡◌, length, map}
 use Rattle.std.specs.List.{list_any}
 use Rattle.std.specs.Prelude.{◌&&◌}
 use Rattle.sql_parser.specs.Tables.{has_name, placed_names}
-use Rattle.sql_parser.specs.Views.{key_text_of}
+use Rattle.sql_parser.specs.Code.Views.{key_text_of}
 use Rattle.sql_trees.specs.Statements.{name_of}
 use Rattle.sql_parser.proofs.table_keys.in_primary.Given as goal
 

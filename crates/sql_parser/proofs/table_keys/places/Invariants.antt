@@ -1,7 +1,7 @@
 use Rattle.std.proofs.Common.{◌≡◌, ◌++◌, length, map}
 use Rattle.sql_blocks.specs.Parts.{column_names}
 use Rattle.sql_parser.specs.Inner.Tables.{place_among}
-use Rattle.sql_parser.specs.Views.{placed_of}
+use Rattle.sql_parser.specs.Code.Views.{placed_of}
 use Rattle.sql_trees.specs.Statements.{column_of}
 use Rattle.sql_parser.proofs.table_keys.places.Given as goal
 

@@ -1,7 +1,7 @@
 use Rattle.std.proofs.Common.{◌≡◌, ◌++◌, length, map}
 use Rattle.sql_trees.specs.Inner.KeyNames.{underscored}
 use Rattle.sql_parser.specs.Tables.{placed_names}
-use Rattle.sql_parser.specs.Views.{placed_of}
+use Rattle.sql_parser.specs.Code.Views.{placed_of}
 use Rattle.sql_parser.proofs.table_keys.push_columns.Given as goal
 
 abbrev pub invariant-loop-columns : goal.invariant-loop-columns

@@ -1,7 +1,7 @@
 use Rattle.std.proofs.Common.{◌≡◌, ◌++◌, length, map}
 use Rattle.sql_blocks.specs.Parts.{column_names}
 use Rattle.sql_parser.specs.Inner.Pieces.{resolved_keys}
-use Rattle.sql_parser.specs.Views.{key_text_of}
+use Rattle.sql_parser.specs.Code.Views.{key_text_of}
 use Rattle.sql_trees.specs.Statements.{column_of, key_of}
 use Rattle.sql_parser.proofs.table_keys.push_keys.Given as goal
 

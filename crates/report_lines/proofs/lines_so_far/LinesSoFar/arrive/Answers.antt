@@ -1,6 +1,6 @@
 use Rattle.std.proofs.Common.{◌≡◌, ◌<◌, ◌∙◌, ap, sym, arith, true, false, length}
-use Rattle.report_lines.specs.SoFar.{LinesSoFar}
-use Rattle.report_lines.specs.Walk.{before_launch, has_unreported}
+use Rattle.report_lines.specs.Code.SoFar.{LinesSoFar}
+use Rattle.report_lines.specs.Code.Walk.{before_launch, has_unreported}
 use Rattle.report_lines.proofs.Reports.{report_stuck, report_due}
 use Rattle.report_lines.proofs.lines_so_far.LinesSoFar.arrive.Goals as goal
 

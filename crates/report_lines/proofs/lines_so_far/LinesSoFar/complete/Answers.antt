@@ -1,6 +1,6 @@
 use Rattle.report_lines.proofs.Waits.{kept_leave}
 use Rattle.std.proofs.Common.{◌≡◌, ◌++◌, ◌∷◌, [], ◌<◌, arith, ap}
-use Rattle.report_lines.specs.SoFar.{LinesSoFar}
+use Rattle.report_lines.specs.Code.SoFar.{LinesSoFar}
 use Rattle.report_lines.specs.declared.history.Line.TheVariants.{Completed}
 use Rattle.report_lines.proofs.lines_so_far.LinesSoFar.complete.Goals as goal
 

@@ -1,7 +1,7 @@
 use Rattle.std.proofs.Common.{◌≡◌, ◌+◌, ◌-◌, ap, length}
 use Rattle.report_lines.specs.declared.history.RunState.{RunState}
-use Rattle.report_lines.specs.SoFar.{LinesSoFar, IsReportSoFar, IsAt}
-use Rattle.report_lines.specs.Walk.{walked_from}
+use Rattle.report_lines.specs.Code.SoFar.{LinesSoFar, IsReportSoFar, IsAt}
+use Rattle.report_lines.specs.Code.Walk.{walked_from}
 use Rattle.report_lines.proofs.Keeping.{both, tells_next, tells_over}
 use Rattle.report_lines.proofs.lines_so_far.LinesSoFar.go_on.Goals as goal
 

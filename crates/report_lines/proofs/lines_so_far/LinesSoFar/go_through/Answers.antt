@@ -3,7 +3,7 @@ use Rattle.std.specs.List.{fold}
 use Rattle.std.proofs.lemmas.Result.{err_from_is_err_and}
 use Rattle.report_lines.specs.declared.history.Line.{Line}
 use Rattle.report_lines.specs.Report.{active}
-use Rattle.report_lines.specs.SoFar.{LinesSoFar}
+use Rattle.report_lines.specs.Code.SoFar.{LinesSoFar}
 use Rattle.report_lines.specs.Inner.Trying.{instances, chosen_retry}
 use Rattle.report_lines.proofs.Passes.{through_waiting, through_end}
 use Rattle.report_lines.proofs.lines_so_far.LinesSoFar.go_through.Goals as goal

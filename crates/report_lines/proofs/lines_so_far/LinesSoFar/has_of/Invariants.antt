@@ -1,6 +1,6 @@
 use Rattle.std.proofs.Common.{◌≡◌, drop}
 use Rattle.std.specs.List.{list_any}
-use Rattle.report_lines.specs.Walk.{is_of}
+use Rattle.report_lines.specs.Code.Walk.{is_of}
 use Rattle.report_lines.proofs.lines_so_far.LinesSoFar.has_of.Given as goal
 
 abbrev pub invariant-loop-waiting : goal.invariant-loop-waiting

@@ -1,8 +1,8 @@
 use Rattle.std.proofs.Common.{◌≡◌, ◌+◌, ◌||◌, Bool, true, false, refl, sym, ap, subst, ◌∙◌}
 use Rattle.std.specs.List.{list_any}
-use Rattle.report_lines.specs.SoFar.{LinesSoFar}
+use Rattle.report_lines.specs.Code.SoFar.{LinesSoFar}
 use Rattle.report_lines.specs.History.{PermutationRun}
-use Rattle.report_lines.specs.Walk.{is_awaited}
+use Rattle.report_lines.specs.Code.Walk.{is_awaited}
 use Rattle.report_lines.specs.Report.{active}
 use Rattle.report_lines.proofs.Waits.{held_first}
 use Rattle.report_lines.proofs.lines_so_far.LinesSoFar.is_held_first.Goals as goal

@@ -1,6 +1,6 @@
 use Rattle.std.proofs.Common.{◌≡◌, ◌+◌, ◌∙◌, ap, length, arith}
 use Rattle.std.proofs.lemmas.Result.{err_from_is_err_and}
-use Rattle.report_lines.specs.SoFar.{LinesSoFar}
+use Rattle.report_lines.specs.Code.SoFar.{LinesSoFar}
 use Rattle.report_lines.specs.Inner.Trying.{pass}
 use Rattle.report_lines.proofs.Waits.{polled_on}
 use Rattle.report_lines.proofs.Growing.{pass_grows, poll_adds}

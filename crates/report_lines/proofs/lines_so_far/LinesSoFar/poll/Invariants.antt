@@ -1,5 +1,5 @@
 use Rattle.std.proofs.Common.{◌≡◌, ◌-◌, ◌≤◌, length}
-use Rattle.report_lines.specs.Walk.{polled, all_polls}
+use Rattle.report_lines.specs.Code.Walk.{polled, all_polls}
 use Rattle.report_lines.proofs.lines_so_far.LinesSoFar.poll.Given as goal
 
 abbrev pub invariant-loop-turn : goal.invariant-loop-turn

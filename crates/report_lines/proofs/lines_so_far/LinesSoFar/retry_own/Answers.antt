@@ -1,6 +1,6 @@
 use Rattle.std.proofs.Common.{◌∙◌, ap, List, length, arith}
 use Rattle.std.proofs.lemmas.Result.{on_ok_weaker, on_err_weaker}
-use Rattle.report_lines.specs.SoFar.{LinesSoFar}
+use Rattle.report_lines.specs.Code.SoFar.{LinesSoFar}
 use Rattle.report_lines.specs.declared.history.Line.{Line}
 use Rattle.report_lines.proofs.Polls.{own_filter}
 use Rattle.report_lines.proofs.lines_so_far.LinesSoFar.retry_own.Goals as goal

@@ -1,8 +1,8 @@
 use Rattle.std.proofs.Common.{◌≡◌, ◌<◌, ◌≤◌, ◌&&◌, true, false, Some, slice_get, length, sym, ◌∙◌, ap, arith}
 use Rattle.std.proofs.lemmas.Result.{err_from_is_err_and}
 use Rattle.report_lines.specs.Report.{active}
-use Rattle.report_lines.specs.Walk.{can_report}
-use Rattle.report_lines.specs.SoFar.{LinesSoFar}
+use Rattle.report_lines.specs.Code.Walk.{can_report}
+use Rattle.report_lines.specs.Code.SoFar.{LinesSoFar}
 use Rattle.report_lines.specs.Inner.Trying.{is_chosen, retried_from}
 use Rattle.report_lines.specs.declared.history.Line.TheVariants.{Completed}
 use Rattle.report_lines.proofs.Passes.{try_reports, try_fewer, try_passes, waits_below}

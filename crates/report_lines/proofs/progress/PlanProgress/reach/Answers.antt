@@ -3,7 +3,7 @@ use Rattle.std.proofs.lemmas.Result.{on_err_weaker}
 use Rattle.spec_parser.specs.Trees.{entry_view}
 use Rattle.report_lines.specs.declared.progress.PlanProgress.{PlanProgress}
 use Rattle.report_lines.specs.History.{PermutationRun}
-use Rattle.report_lines.specs.Progress.{IsSettled}
+use Rattle.report_lines.specs.Code.Progress.{IsSettled}
 use Rattle.report_lines.proofs.Keeping.{on_err}
 use Rattle.report_lines.proofs.progress.PlanProgress.reach.Goals as goal
 

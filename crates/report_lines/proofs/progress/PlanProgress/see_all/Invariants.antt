@@ -3,7 +3,7 @@ use Rattle.std.specs.Prelude.{slice_get}
 use Rattle.session_machine.specs.declared.reply.HistItem.{HistItem}
 use Rattle.spec_parser.specs.Trees.{entry_view}
 use Rattle.report_lines.specs.Starts.{is_order}
-use Rattle.report_lines.specs.Progress.{Keeps}
+use Rattle.report_lines.specs.Code.Progress.{Keeps}
 use Rattle.report_lines.specs.Inner.Progress.{Lags}
 use Rattle.report_lines.proofs.progress.PlanProgress.see_all.Given as goal
 

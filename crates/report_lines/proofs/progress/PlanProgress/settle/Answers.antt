@@ -2,7 +2,7 @@ use Rattle.std.proofs.Common.{◌≡◌, ◌+◌, sym, subst, arith, map, refl}
 use Rattle.spec_parser.specs.Trees.{entry_view}
 use Rattle.report_lines.specs.Due.{orders}
 use Rattle.report_lines.specs.History.{PermutationRun}
-use Rattle.report_lines.specs.SoFar.{IsReportSoFar}
+use Rattle.report_lines.specs.Code.SoFar.{IsReportSoFar}
 use Rattle.report_lines.proofs.Keeping.{settled_already, settled_next, one_behind, room_to_tell, on_err}
 use Rattle.report_lines.proofs.progress.PlanProgress.settle.Goals as goal
 

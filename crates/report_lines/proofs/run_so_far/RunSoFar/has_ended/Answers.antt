@@ -1,6 +1,6 @@
 use Rattle.std.proofs.Common.{◌∙◌, ap, subst, nat_lt, length, get_or}
 use Rattle.report_lines.specs.History.{PermutationRun}
-use Rattle.report_lines.specs.Places.{IsTimed}
+use Rattle.report_lines.specs.Code.Places.{IsTimed}
 use Rattle.report_lines.proofs.Found.{end_found}
 use Rattle.report_lines.proofs.run_so_far.RunSoFar.has_ended.Goals as goal
 

@@ -1,6 +1,6 @@
 use Rattle.std.proofs.Common.{◌≡◌, length, ap, arith}
 use Rattle.report_lines.specs.Due.{orders}
-use Rattle.report_lines.specs.Places.{starts_from}
+use Rattle.report_lines.specs.Code.Places.{starts_from}
 use Rattle.report_lines.proofs.Found.{count_found}
 use Rattle.report_lines.proofs.segments.Segments.count.Goals as goal
 

@@ -4,7 +4,7 @@ use Rattle.report_lines.specs.declared.history.Line.{Line}
 use Rattle.report_lines.specs.declared.history.RunState.{RunState}
 use Rattle.report_lines.specs.declared.history.RunState.TheVariants.{Due, Whole, Invalid}
 use Rattle.report_lines.specs.History.{PermutationRun}
-use Rattle.report_lines.specs.Walk.{walked}
+use Rattle.report_lines.specs.Code.Walk.{walked}
 
 -- the lines so far, and how many entries are launched
 pub record LinesSoFar : Type 0 where

@@ -4,7 +4,7 @@ use Rattle.std.proofs.lemmas.List.{take-append-le}
 use Rattle.session_machine.specs.declared.reply.HistItem.{HistItem}
 use Rattle.report_lines.specs.declared.progress.PlanProgress.{PlanProgress}
 use Rattle.report_lines.specs.History.{PermutationRun}
-use Rattle.report_lines.specs.Progress.{Keeps, KeepsFront}
+use Rattle.report_lines.specs.Code.Progress.{Keeps, KeepsFront}
 use Rattle.report_lines.specs.Fronts.{with_more}
 
 pub follows_longer : (c : PermutationRun) (more : List HistItem) (p : PlanProgress) → KeepsFront c p → KeepsFront (with_more c more) p

@@ -6,8 +6,8 @@ use Rattle.spec_parser.specs.declared.tree.Entry.{Entry}
 use Rattle.spec_parser.specs.Trees.{entry_view}
 use Rattle.report_lines.specs.History.{PermutationRun}
 use Rattle.report_lines.specs.Due.{orders}
-use Rattle.report_lines.specs.Places.{IsSeen}
-use Rattle.report_lines.specs.SoFar.{IsReportSoFar}
+use Rattle.report_lines.specs.Code.Places.{IsSeen}
+use Rattle.report_lines.specs.Code.SoFar.{IsReportSoFar}
 
 -- a permutation of these entries with its history; so many segments come before that of the first entry
 abbrev pub permutation_run : List Entry → List HistItem → ℕ → PermutationRun
