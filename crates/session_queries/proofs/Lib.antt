@@ -1,5 +1,6 @@
 pub mod Among
 pub mod Assigning
+pub mod Bindings
 pub mod ColumnLists
 pub mod Ends
 pub mod Even

@@ -1,5 +1,5 @@
 -- The rows that a SELECT takes are those that are found one after the other, in the order of their keys.
-use Rattle.std.proofs.Common.{◌≡◌, ℕ, ◌+◌, Bool, true, false, List, [], ◌∷◌, map, Ok, Err, refl, sym, ap, ◌∙◌, subst, if◌then◌else◌}
+use Rattle.std.proofs.Common.{◌≡◌, ℕ, zero, suc, ◌+◌, ◌<◌, Bool, true, false, List, [], ◌∷◌, ◌++◌, length, map, drop, None, Ok, Err, refl, sym, ap, ◌∙◌, subst, arith, add-one, if◌then◌else◌}
 use Rattle.std.specs.Prelude.{Option, Result, filter}
 use Rattle.std.specs.List.{enumerate_from}
 use Rattle.std.specs.Global.{Vec}
@@ -17,6 +17,7 @@ use Rattle.query_results.proofs.Unsorted.{unsorted}
 use Rattle.session_queries.specs.Code.Fronts.{AnswersList}
 use Rattle.session_queries.specs.Inner.Fronts.{in_front}
 use Rattle.session_queries.specs.Inner.Ordering.{ordered, passing_from}
+use Rattle.session_queries.proofs.Fronts.{longer_by}
 
 abbrev ok_places : List ℕ → Result (List ℕ) ValueFault
 ok_places places = Ok places
@@ -47,6 +48,20 @@ none_in_front (Err e) = refl
 pub passing_rows : (cols : Cols) (condition : Option Tree) (rows : List (List Value)) (front : List ℕ) → front ≡ [] → passing cols condition rows ≡ in_front front (passing_from cols condition 0 rows)
 passing_rows cols condition rows front none =
     passing_by cols condition 0 rows ∙ none_in_front (passing_from cols condition 0 rows) ∙ ap (λ (xs : List ℕ). in_front xs (passing_from cols condition 0 rows)) (sym none)
+
+next_of : {R : Type 0} (view : R → List Value) (rows : List R) (n k : ℕ) → n < length rows
+    → passing_from [] None k (map view (drop n rows)) ≡ if_ok (passing_from [] None (k + 1) (map view (drop (suc n) rows))) (λ rest. ok_places (k ∷ rest))
+next_of view [] n k h = absurd (omega arith)
+next_of view (row ∷ rows) zero k h = refl
+next_of view (row ∷ rows) (suc n) k h = next_of view rows n k (omega arith)
+
+-- without WHERE each place is one more
+pub next_place : {R : Type 0} (view : R → List Value) (rows : List R) (i : ℕ) (front next : List ℕ) (whole : Result (List ℕ) ValueFault) → i < length rows → next ≡ front ++ i ∷ []
+    → whole ≡ in_front front (passing_from [] None i (map view (drop i rows))) → whole ≡ in_front next (passing_from [] None (i + 1) (map view (drop (i + 1) rows)))
+next_place view rows i front next whole h longer so =
+    let rest : Result (List ℕ) ValueFault = passing_from [] None (i + 1) (map view (drop (suc i) rows)) in
+    so ∙ ap (in_front front) (next_of view rows i i h) ∙ longer_by front (i ∷ []) rest ∙ ap (λ (xs : List ℕ). in_front xs rest) (sym longer)
+    ∙ ap (λ (n : ℕ). in_front next (passing_from [] None (i + 1) (map view (drop n rows)))) (sym (add-one i))
 
 ordered_so : (cols : Cols) (is : List ItemTree) (order : List OrderTree) (rows : List (List Value)) (places : List ℕ)
     → if_ok (each (keys_of cols is order) (rows_at rows places)) (by_keys (map (λ (k : OrderTree). k.dir) order) places) ≡ ordered cols is order rows places

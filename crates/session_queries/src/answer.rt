@@ -1,12 +1,13 @@
 //! What a query answers.
 
-ghost use Rattle.std.specs.Prelude.{◌≡◌, ◌≢◌, ◌∷◌, ◌++◌, All, IfOk, OnOk, IsErrOf, MatchResult, Ok, Err, None, [], length, map, not};
+ghost use Rattle.std.specs.Prelude.{◌≡◌, ◌≢◌, ◌∷◌, ◌++◌, All, IfOk, OnOk, IsErrOf, MatchResult, Ok, Err, None, [], length, map, not, option_map};
 ghost use Rattle.sql_trees.specs.Statements.{column_of, item_of, select_of};
+ghost use Rattle.sql_values.specs.Bound.{bound_tree};
 ghost use Rattle.sql_values.specs.Values.{Answers, each};
 ghost use Rattle.sql_values.specs.Aggregates.{aggregate};
 ghost use Rattle.query_results.specs.Queries.{cols_of, result_of, row_values, select_exprs, titles_of, undefined_among};
 ghost use Rattle.session_queries.specs.Code.Fronts.{AnswersList};
-ghost use Rattle.session_queries.specs.Inner.Answers.{agg_results, items_answered, has_none, item_row, row_results, selected, counted};
+ghost use Rattle.session_queries.specs.Inner.Answers.{agg_results, items_answered, has_none, item_bound, item_row, row_results, selected, counted};
 ghost use Rattle.session_queries.specs.Inner.Fronts.{in_front};
 
 use crate::known::known;
@@ -15,7 +16,7 @@ use crate::titles::{agg_titles, titles_of};
 use crate::undefined::undefined_in_select;
 use query_results::ResultSet;
 use sql_trees::{Column, Item, Select};
-use sql_values::{Columns, Row, Value, ValueFault, aggregate, eval};
+use sql_values::{Bound, Columns, Row, Value, ValueFault, aggregate, eval};
 use std::alloc::{AllocError, Global};
 
 /// Appends the row's values.
@@ -82,7 +83,108 @@ pub fn row_values<'a>(
     values_at(alloc, items, &columns, row)
 }
 
-/// What the items answer at each row.
+/// The expression of an item, bound to the columns, if it has one for each row.
+fn bound_item<'e, 'a>(
+    alloc: Global,
+    item: &'e Item<'a>,
+    columns: &'e Columns<'e>,
+) -> Result<Option<Bound<'e, 'a>>, AllocError>
+    ensures { IfOk result (λ bound. option_map bound_tree bound ≡ item_bound columns.now (item_of item.now)) }
+{
+    match item {
+        Item::Expr(expr, _) => Ok(Some(Bound::of(alloc, expr, columns)?)),
+        _ => Ok(None),
+    }
+}
+
+/// The same of each item.
+fn bound_items<'e, 'a>(
+    alloc: Global,
+    items: &'e [Item<'a>],
+    columns: &'e Columns<'e>,
+) -> Result<Vec<Option<Bound<'e, 'a>>>, AllocError>
+    ensures { IfOk result (λ bound. map (option_map bound_tree) bound.items ≡ map (item_bound columns.now) (map item_of items.now)) }
+{
+    let mut bound = Vec::with_capacity(alloc, items.len())?;
+    for item in items {
+        bound.push(bound_item(alloc, item, columns)?)?;
+    }
+    Ok(bound)
+}
+
+/// Appends what the item answers at the row, by its bound expression, if it has one.
+#[tactic(auto, using(crate::proofs::Bindings::item_meant))]
+fn append_bound<'a>(
+    alloc: Global,
+    values: &mut Vec<Value>,
+    item: &Item<'a>,
+    bound: &Option<Bound<'_, 'a>>,
+    columns: &Columns<'_>,
+    row: &Row,
+) -> Result<(), ValueFault<'a>>
+    requires width { length row.now ≡ length columns.now }
+    requires bound { option_map bound_tree bound.now ≡ item_bound columns.now (item_of item.now) }
+    ensures { MatchResult result
+        (λ _. in_front values.old.items (item_row columns.now row.now (item_of item.now)) ≡ Ok values.new.items)
+        (λ fault. fault ≢ ValueFault.Memory → item_row columns.now row.now (item_of item.now) ≡ Err fault) }
+{
+    match bound {
+        Some(bound) => {
+            values.push(bound.value(alloc, row)?)?;
+            Ok(())
+        }
+        None => append_item(alloc, values, item, columns, row),
+    }
+}
+
+/// As many values as the items have at the row, or fewer, where `*` is among them.
+fn room(items: &[Item<'_>], row: &Row) -> usize {
+    match items.first() {
+        Some(Item::All) => row.values().len(),
+        _ => items.len(),
+    }
+}
+
+/// What the items answer at the row, by their bound expressions.
+#[tactic(auto, using(crate::proofs::Fronts::longer, crate::proofs::Shown::from_items))]
+fn bound_values<'a>(
+    alloc: Global,
+    items: &[Item<'a>],
+    bound: &[Option<Bound<'_, 'a>>],
+    columns: &Columns<'_>,
+    row: &Row,
+) -> Result<Row, ValueFault<'a>>
+    requires width { length row.now ≡ length columns.now }
+    requires bound { map (option_map bound_tree) bound.now ≡ map (item_bound columns.now) (map item_of items.now) }
+    ensures { Answers result (row_values columns.now (map item_of items.now) row.now) }
+{
+    let mut values = Vec::with_capacity(alloc, room(items, row))?;
+    for i in 0..items.len() {
+        append_bound(alloc, &mut values, &items[i], &bound[i], columns, row)?;
+    }
+    Ok(Row::from_vec(values))
+}
+
+/// What the items answer at each row, by their bound expressions.
+fn shown_by<'a>(
+    alloc: Global,
+    items: &[Item<'a>],
+    bound: &[Option<Bound<'_, 'a>>],
+    columns: &Columns<'_>,
+    rows: &[&Row],
+) -> Result<Vec<Row>, ValueFault<'a>>
+    requires width { All (λ row. length row.now ≡ length columns.now) rows.now }
+    requires bound { map (option_map bound_tree) bound.now ≡ map (item_bound columns.now) (map item_of items.now) }
+    ensures { AnswersList result (each (row_values columns.now (map item_of items.now)) (map (λ row. row.now) rows.now)) }
+{
+    let mut shown = Vec::with_capacity(alloc, rows.len())?;
+    for row in rows {
+        shown.push(bound_values(alloc, items, bound, columns, row)?)?;
+    }
+    Ok(shown)
+}
+
+/// What the items answer at each row. Their columns are looked up once.
 fn shown<'a>(
     alloc: Global,
     items: &[Item<'a>],
@@ -92,11 +194,8 @@ fn shown<'a>(
     requires { All (λ row. length row.now ≡ length columns.now) rows.now }
     ensures { AnswersList result (each (row_values columns.now (map item_of items.now)) (map (λ row. row.now) rows.now)) }
 {
-    let mut shown = Vec::new(alloc);
-    for row in rows {
-        shown.push(values_at(alloc, items, columns, row)?)?;
-    }
-    Ok(shown)
+    let bound = bound_items(alloc, items, columns)?;
+    shown_by(alloc, items, &bound, columns, rows)
 }
 
 /// The items at each of the rows.
@@ -149,7 +248,7 @@ fn agg_values<'a>(
 fn one_row(alloc: Global, values: Vec<Value>) -> Result<Vec<Row>, AllocError>
     ensures { IfOk result (λ rows. rows.items ≡ values.items ∷ []) }
 {
-    let mut rows = Vec::new(alloc);
+    let mut rows = Vec::with_capacity(alloc, 1)?;
     rows.push(Row::from_vec(values))?;
     Ok(rows)
 }

@@ -2,20 +2,21 @@
 
 ghost use Rattle.std.specs.Prelude.{◌≡◌, ◌<◌, All, IfOk, Ok, length, map, option_map, slice_index_or};
 ghost use Rattle.iso_lexer.specs.Names.{name_view, decoded};
-ghost use Rattle.sql_trees.specs.Statements.{item_of, name_of, order_of};
+ghost use Rattle.sql_trees.specs.Statements.{OrderTree, item_of, name_of, order_of};
 ghost use Rattle.sql_trees.specs.Trees.{tree_of};
 ghost use Rattle.sql_values.specs.declared.value.Value.TheVariants.{Null as SqlNull};
+ghost use Rattle.sql_values.specs.Bound.{bound_tree};
 ghost use Rattle.sql_values.specs.Values.{Answers, each};
 ghost use Rattle.session_queries.specs.Code.Fronts.{AnswersList};
 ghost use Rattle.query_results.specs.Ordering.{rows_at};
 ghost use Rattle.query_results.specs.Inner.Pieces.{keys_of, shown};
-ghost use Rattle.session_queries.specs.Inner.Ordering.{key_answer};
+ghost use Rattle.session_queries.specs.Inner.Ordering.{key_answer, key_bound};
 ghost use Rattle.session_queries.specs.Inner.Undefined.{aliased};
 
 use iso_lexer::{Name, same_name};
 use sql_trees::{Expr, Item, OrderKey};
-use sql_values::{Columns, Row, Value, ValueFault, eval};
-use std::alloc::Global;
+use sql_values::{Bound, Columns, Row, Value, ValueFault, eval};
+use std::alloc::{AllocError, Global};
 
 /// The expression of the first item that has this alias.
 pub fn aliased<'e, 'a>(items: &'e [Item<'a>], name: &Name<'_>) -> Option<&'e Expr<'a>>
@@ -81,26 +82,108 @@ fn key_value<'a>(
     }
 }
 
+/// The expression that a key means, bound to the columns; a number means none.
+fn bound_key<'e, 'a>(
+    alloc: Global,
+    key: &'e Expr<'a>,
+    items: &'e [Item<'a>],
+    columns: &'e Columns<'e>,
+) -> Result<Option<Bound<'e, 'a>>, AllocError>
+    ensures { IfOk result (λ bound. option_map bound_tree bound ≡ key_bound columns.now (map item_of items.now) (tree_of key.now)) }
+{
+    match key {
+        Expr::Number { .. } => Ok(None),
+        Expr::Column(name) => match aliased(items, name) {
+            Some(expr) => Ok(Some(Bound::of(alloc, expr, columns)?)),
+            None => Ok(Some(Bound::of(alloc, key, columns)?)),
+        },
+        _ => Ok(Some(Bound::of(alloc, key, columns)?)),
+    }
+}
+
+/// The same of each key.
+fn bound_keys<'e, 'a>(
+    alloc: Global,
+    order: &'e [OrderKey<'a>],
+    items: &'e [Item<'a>],
+    columns: &'e Columns<'e>,
+) -> Result<Vec<Option<Bound<'e, 'a>>>, AllocError>
+    ensures { IfOk result (λ bound. map (option_map bound_tree) bound.items ≡ map (λ (k : OrderTree). key_bound columns.now (map item_of items.now) k.expr) (map order_of order.now)) }
+{
+    let mut bound = Vec::with_capacity(alloc, order.len())?;
+    for key in order {
+        bound.push(bound_key(alloc, &key.expr, items, columns)?)?;
+    }
+    Ok(bound)
+}
+
+/// The value of a key at the row, by the expression that it means, if one is bound for it.
+#[tactic(auto, using(crate::proofs::Bindings::key_meant))]
+fn key_at<'a>(
+    alloc: Global,
+    key: &Expr<'a>,
+    bound: &Option<Bound<'_, 'a>>,
+    items: &[Item<'a>],
+    columns: &Columns<'_>,
+    row: &Row,
+) -> Result<Value, ValueFault<'a>>
+    requires width { length row.now ≡ length columns.now }
+    requires bound { option_map bound_tree bound.now ≡ key_bound columns.now (map item_of items.now) (tree_of key.now) }
+    ensures { Answers result (key_answer columns.now (map item_of items.now) row.now (tree_of key.now)) }
+{
+    match bound {
+        Some(bound) => bound.value(alloc, row),
+        None => key_value(alloc, key, items, columns, row),
+    }
+}
+
 /// The keys of the row, from the left.
+#[tactic(auto, using(crate::proofs::Meant::keys_front))]
 fn keys_of<'a>(
     alloc: Global,
     order: &[OrderKey<'a>],
+    bound: &[Option<Bound<'_, 'a>>],
     items: &[Item<'a>],
     columns: &Columns<'_>,
     row: &Row,
 ) -> Result<Row, ValueFault<'a>>
-    requires { length row.now ≡ length columns.now }
+    requires width { length row.now ≡ length columns.now }
+    requires bound { map (option_map bound_tree) bound.now ≡ map (λ (k : OrderTree). key_bound columns.now (map item_of items.now) k.expr) (map order_of order.now) }
     ensures keys { Answers result (keys_of columns.now (map item_of items.now) (map order_of order.now) row.now) }
     ensures long { IfOk result (λ keys. length keys ≡ length order.now) }
 {
-    let mut keys = Vec::new(alloc);
-    for key in order {
-        keys.push(key_value(alloc, &key.expr, items, columns, row)?)?;
+    let mut keys = Vec::with_capacity(alloc, order.len())?;
+    for i in 0..order.len() {
+        keys.push(key_at(alloc, &order[i].expr, &bound[i], items, columns, row)?)?;
     }
     Ok(Row::from_vec(keys))
 }
 
-/// The keys of the rows at these places, row by row.
+/// The keys of the rows at these places, row by row, by what is bound for them.
+fn keys_by<'a>(
+    alloc: Global,
+    order: &[OrderKey<'a>],
+    bound: &[Option<Bound<'_, 'a>>],
+    items: &[Item<'a>],
+    columns: &Columns<'_>,
+    rows: &[&Row],
+    places: &[usize],
+) -> Result<Vec<Row>, ValueFault<'a>>
+    requires width { All (λ row. length row.now ≡ length columns.now) rows.now }
+    requires within { All (λ p. p < length rows.now) places.now }
+    requires bound { map (option_map bound_tree) bound.now ≡ map (λ (k : OrderTree). key_bound columns.now (map item_of items.now) k.expr) (map order_of order.now) }
+    ensures keys { AnswersList result (each (keys_of columns.now (map item_of items.now) (map order_of order.now)) (rows_at (map (λ row. row.now) rows.now) places.now)) }
+    ensures each_long { IfOk result (λ keys. All (λ row. length row ≡ length order.now) keys.items) }
+    ensures long { IfOk result (λ keys. length keys.items ≡ length places.now) }
+{
+    let mut keys = Vec::with_capacity(alloc, places.len())?;
+    for place in places {
+        keys.push(keys_of(alloc, order, bound, items, columns, rows[*place])?)?;
+    }
+    Ok(keys)
+}
+
+/// The keys of the rows at these places, row by row. What they mean is looked up once.
 pub fn keys_at<'a>(
     alloc: Global,
     order: &[OrderKey<'a>],
@@ -115,9 +198,6 @@ pub fn keys_at<'a>(
     ensures each_long { IfOk result (λ keys. All (λ row. length row ≡ length order.now) keys.items) }
     ensures long { IfOk result (λ keys. length keys.items ≡ length places.now) }
 {
-    let mut keys = Vec::new(alloc);
-    for place in places {
-        keys.push(keys_of(alloc, order, items, columns, rows[*place])?)?;
-    }
-    Ok(keys)
+    let bound = bound_keys(alloc, order, items, columns)?;
+    keys_by(alloc, order, &bound, items, columns, rows, places)
 }

@@ -24,7 +24,7 @@ fn constant<'a>(alloc: Global, expr: &Expr<'a>) -> Result<Value, ValueFault<'a>>
 fn constants<'a>(alloc: Global, exprs: &[Expr<'a>]) -> Result<Row, ValueFault<'a>>
     ensures { Answers result (each (λ e. value e [] []) (map tree_of exprs.now)) }
 {
-    let mut values = Vec::new(alloc);
+    let mut values = Vec::with_capacity(alloc, exprs.len())?;
     for expr in exprs {
         values.push(constant(alloc, expr)?)?;
     }
@@ -34,7 +34,7 @@ fn constants<'a>(alloc: Global, exprs: &[Expr<'a>]) -> Result<Row, ValueFault<'a
 fn nulls(alloc: Global, width: usize) -> Result<Vec<Value>, AllocError>
     ensures { IfOk result (λ row. row.items ≡ replicate width SqlNull) }
 {
-    let mut row = Vec::new(alloc);
+    let mut row = Vec::with_capacity(alloc, width)?;
     for _ in 0..width {
         row.push(Value::Null)?;
     }

@@ -23,7 +23,7 @@ use std::alloc::{AllocError, Global};
 fn directions(alloc: Global, order: &[OrderKey<'_>]) -> Result<Vec<Dir>, AllocError>
     ensures { IfOk result (λ by. by.items ≡ map (λ (k : OrderTree). k.dir) (map order_of order.now)) }
 {
-    let mut by = Vec::new(alloc);
+    let mut by = Vec::with_capacity(alloc, order.len())?;
     for key in order {
         by.push(key.dir)?;
     }
@@ -35,7 +35,7 @@ fn picked(alloc: Global, places: &[usize], indices: &[usize]) -> Result<Vec<usiz
     requires { All (λ i. i < length places.now) indices.now }
     ensures { IfOk result (λ picked. picked.items ≡ map (λ i. slice_index_or places.now i 0) indices.now) }
 {
-    let mut picked = Vec::new(alloc);
+    let mut picked = Vec::with_capacity(alloc, indices.len())?;
     for i in indices {
         picked.push(places[*i])?;
     }
@@ -68,7 +68,7 @@ pub fn rows_at<'r>(
     requires { All (λ p. p < length rows.now) places.now }
     ensures { IfOk result (λ taken. map (λ row. row.now) taken.items ≡ rows_at (map (λ row. row.now) rows.now) places.now) }
 {
-    let mut taken = Vec::new(alloc);
+    let mut taken = Vec::with_capacity(alloc, places.len())?;
     for place in places {
         taken.push(rows[*place])?;
     }

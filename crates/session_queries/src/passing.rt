@@ -1,6 +1,6 @@
 //! The rows that pass WHERE.
 
-ghost use Rattle.std.specs.Prelude.{◌≡◌, ◌<◌, ◌⊎◌, All, Any, IfOk, IsErrOf, IsSomeAnd, Ok, length, map, option_map, true};
+ghost use Rattle.std.specs.Prelude.{◌≡◌, ◌<◌, ◌⊎◌, [], All, Any, IfOk, IsErrOf, IsSomeAnd, OnErr, Ok, Some, None, length, map, option_map, true};
 ghost use Rattle.sql_trees.specs.Statements.{column_of};
 ghost use Rattle.sql_trees.specs.Trees.{tree_of};
 ghost use Rattle.sql_values.specs.Expressions.{passes};
@@ -11,24 +11,42 @@ ghost use Rattle.query_results.specs.Queries.{cols_of, passing};
 
 use crate::known::known;
 use sql_trees::{Column, Expr};
-use sql_values::{Columns, Row, ValueFault, passes};
-use std::alloc::Global;
+use sql_values::{Bound, Columns, Row, ValueFault};
+use std::alloc::{AllocError, Global};
 
-/// Whether WHERE passes the row.
-fn is_taken<'a>(
-    alloc: Global,
-    filter: &Option<Expr<'a>>,
-    columns: &Columns<'_>,
-    row: &Row,
-) -> Result<bool, ValueFault<'a>>
-    requires { length row.now ≡ length columns.now }
-    ensures exact { Answers result (passes (option_map tree_of filter.now) columns.now row.now) }
-    ensures memory { IsErrOf result ValueFault.Memory → IsSomeAnd filter.now (λ expr. may_grow (tree_of expr) ≡ true) }
+/// The places of all rows, for a statement without WHERE.
+fn all_places(alloc: Global, rows: &[&Row]) -> Result<Vec<usize>, AllocError>
+    ensures places { IfOk result (λ places. passing [] None (map (λ row. row.now) rows.now) ≡ Ok places.items) }
+    ensures within { IfOk result (λ places. All (λ p. p < length rows.now) places.items) }
+    // Without rows there is nothing to grow.
+    ensures memory { OnErr result (0 < length rows.now) }
 {
-    match filter {
-        Some(expr) => passes(alloc, Some(expr), columns, row),
-        None => Ok(true),
+    let mut places = Vec::new(alloc);
+    for place in 0..rows.len() {
+        places.push(place)?;
     }
+    Ok(places)
+}
+
+/// The places of the rows that pass the condition.
+fn places_passing<'a>(
+    alloc: Global,
+    condition: &Bound<'_, 'a>,
+    rows: &[&Row],
+) -> Result<Vec<usize>, ValueFault<'a>>
+    requires { All (λ row. length row.now ≡ length condition.now.columns) rows.now }
+    ensures places { AnswersList result (passing condition.now.columns (Some (tree_of condition.now.expr)) (map (λ row. row.now) rows.now)) }
+    // The condition may grow, and so does the list with each row that passes.
+    ensures memory { IsErrOf result ValueFault.Memory → (may_grow (tree_of condition.now.expr) ≡ true) ⊎ Any (λ row. passes (Some (tree_of condition.now.expr)) condition.now.columns row.now ≡ Ok true) rows.now }
+    ensures within { IfOk result (λ places. All (λ p. p < length rows.now) places.items) }
+{
+    let mut places = Vec::new(alloc);
+    for place in 0..rows.len() {
+        if condition.passes(alloc, rows[place])? {
+            places.push(place)?;
+        }
+    }
+    Ok(places)
 }
 
 /// The places of the rows that pass WHERE, for columns as expressions know them.
@@ -44,13 +62,13 @@ pub fn passing<'a>(
     ensures memory { IsErrOf result ValueFault.Memory → IsSomeAnd filter.now (λ expr. may_grow (tree_of expr) ≡ true) ⊎ Any (λ row. passes (option_map tree_of filter.now) columns.now row.now ≡ Ok true) rows.now }
     ensures within { IfOk result (λ places. All (λ p. p < length rows.now) places.items) }
 {
-    let mut places = Vec::new(alloc);
-    for place in 0..rows.len() {
-        if is_taken(alloc, filter, columns, rows[place])? {
-            places.push(place)?;
+    match filter {
+        Some(expr) => {
+            let condition = Bound::of(alloc, expr, columns)?;
+            places_passing(alloc, &condition, rows)
         }
+        None => Ok(all_places(alloc, rows)?),
     }
-    Ok(places)
 }
 
 /// The places of the rows that pass WHERE.

@@ -25,7 +25,7 @@ fn set_values<'a>(
     requires { length row.now ≡ length columns.now }
     ensures { Answers result (each (λ (s : SetTree). value s.value columns.now row.now) (map set_of sets.now)) }
 {
-    let mut values = Vec::new(alloc);
+    let mut values = Vec::with_capacity(alloc, sets.len())?;
     for (_, expr) in sets {
         values.push(eval(alloc, expr, columns, row)?)?;
     }
@@ -35,7 +35,7 @@ fn set_values<'a>(
 fn values_of(alloc: Global, row: &Row) -> Result<Vec<Value>, AllocError>
     ensures { IfOk result (λ values. values.items ≡ row.now) }
 {
-    let mut values = Vec::new(alloc);
+    let mut values = Vec::with_capacity(alloc, row.values().len())?;
     for value in row.values() {
         values.push(value.copied(alloc)?)?;
     }

@@ -1,5 +1,5 @@
 -- Where a part may grow, the whole may.
-use Rattle.std.proofs.Common.{◌≡◌, refl, ap, ◌∙◌, Bool, true, false, ◌||◌, ℕ, zero, suc, ◌<◌, List, [], ◌∷◌, length, arith, get_or}
+use Rattle.std.proofs.Common.{◌≡◌, refl, Bool, true, false, ◌||◌, ℕ, zero, suc, ◌<◌, List, [], ◌∷◌, length, arith, get_or}
 use Rattle.sql_trees.specs.declared.expr.Expr.{Expr}
 use Rattle.sql_trees.specs.Trees.{tree_of, trees}
 use Rattle.sql_values.specs.Growing.{may_grow, some_may_grow}

@@ -1,5 +1,6 @@
 pub mod Among
 pub mod Best
+pub mod ByPlace
 pub mod Calls
 pub mod Extremes
 pub mod Gathered

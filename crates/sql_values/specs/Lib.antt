@@ -7,4 +7,5 @@ pub mod Sorting
 pub mod Aggregates
 pub mod FaultText
 pub mod Growing
+pub mod Bound
 pub mod Inner

@@ -1,5 +1,5 @@
 -- To be believed. Values: their ranges, how two of them compare, and what a column of a kind takes of them.
-use Rattle.std.specs.Prelude.{ℕ, ◌^◌, ◌≡◌, ◌≢◌, ℤ, pos, neg_ℤ, int_le, int_lt, Bool, true, false, ◌&&◌, ◌∷◌}
+use Rattle.std.specs.Prelude.{ℕ, ◌^◌, ◌≡◌, ◌≢◌, ℤ, pos, neg_ℤ, int_le, int_lt, Bool, true, false, ◌&&◌}
 use Rattle.std.specs.Prelude.{Option, Some, None, option_map, ok_or, Result, Ok, Err, if◌then◌else◌}
 use Rattle.std.specs.Option.{option_zip}
 use Rattle.std.specs.Ordering.{nat_cmp, int_cmp, bool_cmp}

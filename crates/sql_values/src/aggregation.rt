@@ -8,8 +8,8 @@ ghost use Rattle.sql_values.specs.Aggregates.{total, summary, aggregate};
 ghost use Rattle.sql_values.specs.Inner.Extremes.{values, is_number, is_text, beats, best, extreme};
 
 use crate::arithmetic::bigint;
+use crate::bound::Bound;
 use crate::columns::Columns;
-use crate::evaluation::eval;
 use crate::fault::ValueFault;
 use crate::operation::is_null;
 use crate::row::Row;
@@ -18,7 +18,27 @@ use crate::value::Value;
 use sql_trees::{Agg, AggKind, Expr};
 use std::alloc::Global;
 
-/// The values of the expression on the rows, in order, without NULLs.
+/// The values of the bound expression on the rows, in order, without NULLs.
+fn values_of<'a>(
+    alloc: Global,
+    bound: &Bound<'_, 'a>,
+    rows: &[&Row],
+) -> Result<Vec<Value>, ValueFault<'a>>
+    requires { All (λ row. length row.now ≡ length bound.now.columns) rows.now }
+    ensures { MatchResult result (λ found. values (tree_of bound.now.expr) bound.now.columns (map (λ row. row.now) rows.now) ≡ Ok found.items)
+        (λ fault. fault ≢ ValueFault.Memory → values (tree_of bound.now.expr) bound.now.columns (map (λ row. row.now) rows.now) ≡ Err fault) }
+{
+    let mut found = Vec::with_capacity(alloc, rows.len())?;
+    for row in rows {
+        let value = bound.value(alloc, row)?;
+        if !is_null(&value) {
+            found.push(value)?;
+        }
+    }
+    Ok(found)
+}
+
+/// The same of an expression, whose columns are looked up once.
 fn values<'a>(
     alloc: Global,
     expr: &Expr<'a>,
@@ -29,14 +49,8 @@ fn values<'a>(
     ensures { MatchResult result (λ found. values (tree_of expr.now) cols.now (map (λ row. row.now) rows.now) ≡ Ok found.items)
         (λ fault. fault ≢ ValueFault.Memory → values (tree_of expr.now) cols.now (map (λ row. row.now) rows.now) ≡ Err fault) }
 {
-    let mut found = Vec::new(alloc);
-    for row in rows {
-        let value = eval(alloc, expr, cols, row)?;
-        if !is_null(&value) {
-            found.push(value)?;
-        }
-    }
-    Ok(found)
+    let bound = Bound::of(alloc, expr, cols)?;
+    values_of(alloc, &bound, rows)
 }
 
 /// The sum of two numbers, of which the first is far from the ends of its type.

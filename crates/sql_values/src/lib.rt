@@ -16,11 +16,13 @@
 mod aggregation;
 mod arithmetic;
 mod assignment;
+mod bound;
 mod columns;
 mod comparison;
 mod evaluation;
 mod fault;
 mod laws;
+mod lent;
 mod literal;
 mod logic;
 mod operation;
@@ -31,6 +33,7 @@ mod value;
 
 pub use aggregation::aggregate;
 pub use assignment::assign;
+pub use bound::Bound;
 pub use columns::Columns;
 pub use comparison::compare;
 pub use evaluation::{eval, passes};

@@ -35,7 +35,7 @@ impl Row {
     pub fn copied(&self, alloc: Global) -> Result<Row, AllocError>
         ensures { IfOk result (λ copy. copy ≡ self.now) }
     {
-        let mut values = Vec::new(alloc);
+        let mut values = Vec::with_capacity(alloc, self.values.len())?;
         for value in &self.values {
             values.push(value.copied(alloc)?)?;
         }

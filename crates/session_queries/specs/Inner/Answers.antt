@@ -1,6 +1,6 @@
 -- What a query answers at the rows that it takes.
-use Rattle.std.specs.Prelude.{ℕ, ◌-◌, ◌==◌, nat_lt, Bool, true, false, List, [], ◌∷◌, ◌++◌, filter_map, length, map, Result, Ok, if◌then◌else◌}
-use Rattle.sql_trees.specs.Trees.{AggTree}
+use Rattle.std.specs.Prelude.{ℕ, ◌-◌, ◌==◌, nat_lt, Bool, true, false, List, [], ◌∷◌, ◌++◌, filter_map, length, map, Option, Some, None, Result, Ok, if◌then◌else◌}
+use Rattle.sql_trees.specs.Trees.{Tree, AggTree}
 use Rattle.sql_trees.specs.Statements.{ColumnTree, ItemTree, SelectTree}
 use Rattle.sql_trees.specs.Statements as stmt
 use Rattle.sql_values.specs.declared.value.Value.{Value}
@@ -20,6 +20,11 @@ abbrev pub item_row : Cols → List Value → ItemTree → Result (List Value) V
 item_row cols row stmt.All = Ok row
 item_row cols row (stmt.Value e alias) = if_ok (value e cols row) (λ v. Ok (v ∷ []))
 item_row cols row (stmt.Aggregate a alias) = Ok []
+
+-- the expression that an item has for each row, with the columns
+abbrev pub item_bound : Cols → ItemTree → Option (Tree × Cols)
+item_bound cols (stmt.Value e alias) = Some (e, cols)
+item_bound cols i = None
 
 abbrev pub row_by_items : Cols → List ItemTree → List Value → Result (List Value) ValueFault
 row_by_items cols [] row = Ok []

@@ -1,5 +1,5 @@
 -- The rows that a SELECT takes, as they are found one after the other.
-use Rattle.std.specs.Prelude.{ℕ, ◌+◌, List, [], ◌∷◌, map, Option, Result, Ok, unwrap_or, if◌then◌else◌, ◌-◌, ◌==◌, ◌||◌, slice_index_or}
+use Rattle.std.specs.Prelude.{ℕ, ◌+◌, List, [], ◌∷◌, map, Option, Some, None, Result, Ok, unwrap_or, if◌then◌else◌, ◌-◌, ◌==◌, ◌||◌, slice_index_or}
 use Rattle.sql_trees.specs.Trees.{Tree}
 use Rattle.sql_trees.specs.Trees as tree
 use Rattle.sql_trees.specs.Statements.{ItemTree, OrderTree}
@@ -23,6 +23,12 @@ abbrev pub key_answer : Cols → List ItemTree → List Value → Tree → Answe
 key_answer cols is row (tree.Number negative n) = if negative || n == 0 then Ok Null else slice_index_or (shown cols is row) (n - 1) (Ok Null)
 key_answer cols is row (tree.Column name) = value (unwrap_or (aliased is name) (tree.Column name)) cols row
 key_answer cols is row e = value e cols row
+
+-- the expression that a key means, with the columns; a number means none
+abbrev pub key_bound : Cols → List ItemTree → Tree → Option (Tree × Cols)
+key_bound cols is (tree.Number negative n) = None
+key_bound cols is (tree.Column name) = Some (unwrap_or (aliased is name) (tree.Column name), cols)
+key_bound cols is e = Some (e, cols)
 
 -- the values of the keys, from the left
 abbrev pub key_answers : Cols → List ItemTree → List OrderTree → List Value → Result (List Value) ValueFault

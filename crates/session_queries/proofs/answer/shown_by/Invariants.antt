@@ -3,7 +3,7 @@ use Rattle.sql_trees.specs.Statements.{item_of}
 use Rattle.sql_values.specs.Values.{each}
 use Rattle.query_results.specs.Queries.{row_values}
 use Rattle.session_queries.specs.Inner.Fronts.{in_front}
-use Rattle.session_queries.proofs.answer.shown.Given as goal
+use Rattle.session_queries.proofs.answer.shown_by.Given as goal
 
 abbrev pub invariant-loop-row : goal.invariant-loop-row
 invariant-loop-row l =

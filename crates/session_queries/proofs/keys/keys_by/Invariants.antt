@@ -5,7 +5,7 @@ use Rattle.session_queries.specs.Inner.Fronts.{in_front}
 use Rattle.query_results.specs.Ordering.{rows_at}
 use Rattle.sql_values.specs.Values.{each}
 use Rattle.query_results.specs.Inner.Pieces.{keys_of}
-use Rattle.session_queries.proofs.keys.keys_at.Given as goal
+use Rattle.session_queries.proofs.keys.keys_by.Given as goal
 
 abbrev pub invariant-loop-place : goal.invariant-loop-place
 invariant-loop-place l =
