@@ -1,0 +1,12 @@
+pub mod Lists
+pub mod Busy
+pub mod Reported
+pub mod Segments
+pub mod Closing
+pub mod Ready
+pub mod Resting
+pub mod Placed
+pub mod Accepted
+pub mod Existing
+pub mod Entries
+pub mod Lexed

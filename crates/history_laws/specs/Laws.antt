@@ -1,0 +1,25 @@
+-- That each permutation has a history, and each file a text. Each law stands on the contract of a function of `laws`.
+use Rattle.std.specs.Prelude.{◌≡◌, ℕ, true, List, Some, is_some, slice_get}
+use Rattle.session_machine.specs.declared.event.Mode.{Mode}
+use Rattle.session_machine.specs.declared.session.Session.{Session}
+use Rattle.session_machine.specs.declared.reply.HistItem.{HistItem}
+use Rattle.session_machine.specs.Machine.{Machine, Blocks, opening, Run}
+use Rattle.spec_parser.specs.Trees.{EntryTree, SpecTree}
+use Rattle.permutation_plans.specs.Regular.{next_order, IsRegular}
+use Rattle.history_laws.specs.Unfinished.{IsUnfinished}
+use Rattle.history_laws.specs.UnderWay.{IsUnderWay, DoesOrder, HasItsBlocks, HasItsSteps}
+
+-- a session that is in a block was given it, and no item since ended it
+abbrev pub BusySessionsWereLaunched : Type 0
+BusySessionsWereLaunched = (given : Blocks) (mode : Mode) (count : ℕ) (items : List HistItem) (m : Machine) → Run given mode (opening count) items m
+    → (session : ℕ) (s : Session) → slice_get m.sessions session ≡ Some s → is_some s.place ≡ true → IsUnfinished items session
+
+-- wherever a permutation has come to, the machine does what it orders next: the session is there and in no block, the block is there, and the session may be given it
+abbrev pub NextOrdersAreDone : Type 0
+NextOrdersAreDone = (spec : SpecTree) (blocks : Blocks) (entries : List EntryTree) → HasItsBlocks spec blocks → HasItsSteps spec entries
+    → (items : List HistItem) (m : Machine) → IsUnderWay spec blocks entries items m → DoesOrder blocks m (next_order spec entries items)
+
+-- a permutation whose blocks and steps are there has a regular history
+abbrev pub RegularHistoriesAreThere : Type 0
+RegularHistoriesAreThere = (spec : SpecTree) (blocks : Blocks) (entries : List EntryTree) → HasItsBlocks spec blocks → HasItsSteps spec entries
+    → (items : List HistItem) × IsRegular spec blocks entries items

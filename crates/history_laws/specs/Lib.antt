@@ -1,0 +1,3 @@
+pub mod Unfinished
+pub mod UnderWay
+pub mod Laws
