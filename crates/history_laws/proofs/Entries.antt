@@ -64,7 +64,7 @@ each_from sessions turns keeps front (x ∷ rest) is =
 
 -- ---- permutations
 
-abbrev KeepsCounts : Type 0
+abbrev pub KeepsCounts : Type 0
 KeepsCounts = (counts list : List ℕ) → Contains (interleavings counts) list → IsInterleaving counts list
 
 all_have : KeepsCounts → (spec : SpecTree) → Stands spec → All (HasItsSteps spec) (permutations_of spec)

@@ -10,3 +10,10 @@ pub mod Accepted
 pub mod Existing
 pub mod Entries
 pub mod Lexed
+pub mod Kept
+pub mod Fine
+pub mod FineSql
+pub mod Given
+pub mod Files
+pub mod Whole
+pub mod Texts

@@ -1,12 +1,16 @@
 -- That each permutation has a history, and each file a text. Each law stands on the contract of a function of `laws`.
-use Rattle.std.specs.Prelude.{◌≡◌, ℕ, true, List, Some, is_some, slice_get}
+use Rattle.std.specs.Prelude.{◌≡◌, ℕ, true, List, Contains, Some, is_some, slice_get, Ok}
 use Rattle.session_machine.specs.declared.event.Mode.{Mode}
 use Rattle.session_machine.specs.declared.session.Session.{Session}
 use Rattle.session_machine.specs.declared.reply.HistItem.{HistItem}
 use Rattle.session_machine.specs.Machine.{Machine, Blocks, opening, Run}
 use Rattle.spec_parser.specs.Trees.{EntryTree, SpecTree}
+use Rattle.permutation_lists.specs.Permutations.{permutations_of}
 use Rattle.permutation_plans.specs.Regular.{next_order, IsRegular}
+use Rattle.spec_files.specs.Files.{File, FileIs}
+use Rattle.spec_files.specs.Prints.{FileSays}
 use Rattle.history_laws.specs.Unfinished.{IsUnfinished}
+use Rattle.history_laws.specs.One.{ExactlyOne}
 use Rattle.history_laws.specs.UnderWay.{IsUnderWay, DoesOrder, HasItsBlocks, HasItsSteps}
 
 -- a session that is in a block was given it, and no item since ended it
@@ -23,3 +27,23 @@ NextOrdersAreDone = (spec : SpecTree) (blocks : Blocks) (entries : List EntryTre
 abbrev pub RegularHistoriesAreThere : Type 0
 RegularHistoriesAreThere = (spec : SpecTree) (blocks : Blocks) (entries : List EntryTree) → HasItsBlocks spec blocks → HasItsSteps spec entries
     → (items : List HistItem) × IsRegular spec blocks entries items
+
+-- ---- of files
+
+-- the blocks and steps of a spec that was read are there
+abbrev pub SpecsHaveTheirBlocks : Type 0
+SpecsHaveTheirBlocks = (bytes : List ℕ) (file : File) → FileIs bytes (Ok file)
+    → HasItsBlocks file.spec file.blocks × ((entries : List EntryTree) → Contains (permutations_of file.spec) entries → HasItsSteps file.spec entries)
+
+-- each permutation of a file has exactly one regular history
+abbrev pub EachHasAHistory : Type 0
+EachHasAHistory = (bytes : List ℕ) (file : File) → FileIs bytes (Ok file) → (entries : List EntryTree) → Contains (permutations_of file.spec) entries
+    → ExactlyOne (IsRegular file.spec file.blocks entries)
+
+-- whatever the bytes are, they are exactly one spec, or have exactly one refusal
+abbrev pub EveryFileIsOneThing : Type 0
+EveryFileIsOneThing = (bytes : List ℕ) → ExactlyOne (FileIs bytes)
+
+-- and for each limit they have exactly one text with its notes and its end, or exactly one refusal
+abbrev pub EveryFileHasAText : Type 0
+EveryFileHasAText = (bytes : List ℕ) (limit : ℕ) → ExactlyOne (FileSays bytes limit)

@@ -1,3 +1,4 @@
 pub mod Unfinished
 pub mod UnderWay
+pub mod One
 pub mod Laws
