@@ -1,15 +1,15 @@
 -- The machine does what a permutation orders next.
 use Rattle.std.proofs.Common.{◌≡◌, ◌≢◌, refl, ◌∙◌, ap, Bool, true, false, not, ℕ, ◌+◌, List, length, length-set, arith, if◌then◌else◌}
-use Rattle.std.specs.Prelude.{Some, is_some, slice_get, Result, Ok, Err}
+use Rattle.std.specs.Prelude.{Some, is_some, slice_get, Ok, Err}
 use Rattle.std.proofs.lemmas.List.{length-replicate}
 use Rattle.session_machine.specs.declared.session.Session.{Session}
 use Rattle.session_machine.specs.declared.event.Event.{Event}
 use Rattle.session_machine.specs.declared.event.Order.{Order}
 use Rattle.session_machine.specs.declared.event.Order.TheVariants.{Launch, Leave, Stop}
+use Rattle.session_machine.specs.declared.event.Mode.{Mode}
 use Rattle.session_machine.specs.declared.event.Mode.TheVariants.{Directed}
 use Rattle.session_machine.specs.declared.reply.HistItem.{HistItem}
 use Rattle.session_machine.specs.declared.reply.Outcome.TheVariants.{Left}
-use Rattle.session_machine.specs.declared.fault.Refusal.{Refusal}
 use Rattle.session_machine.specs.declared.fault.Refusal.TheVariants.{Busy, NotYourTurn, BlockNotAllowed}
 use Rattle.session_machine.specs.Machine.{Machine, Blocks, Next, next, opening, at_rest, stmts_of, may_launch, is_quiet, comes_out, session_of, Run}
 use Rattle.session_machine.specs.Inner.Steps.{launch_of, leave_of, left_behind, first_place, after_launch}
@@ -27,21 +27,15 @@ use Rattle.history_laws.proofs.Ready.{next_at, not_given_two}
 use Rattle.history_laws.proofs.Placed.{IsPlaced, orders_placed}
 
 -- no event makes sessions come or go
-as_many : (given : Blocks) (count : ℕ) (m : Machine) (event : Event) (n : Next) → length m.sessions ≡ count → next given Directed m event ≡ Ok n → length n.machine.sessions ≡ count
-as_many given count m event n long h =
-    let found = session_there given Directed m event n h in
-    let t = turned given Directed m event found.0 n found.1 h in
+as_many : (given : Blocks) (mode : Mode) (count : ℕ) (m : Machine) (event : Event) (n : Next) → length m.sessions ≡ count → next given mode m event ≡ Ok n → length n.machine.sessions ≡ count
+as_many given mode count m event n long h =
+    let found = session_there given mode m event n h in
+    let t = turned given mode m event found.0 n found.1 h in
     ap length t.is ∙ length-set m.sessions (session_of event) t.u ∙ long
 
-all_there : (given : Blocks) (count : ℕ) (items : List HistItem) (m : Machine) → Run given Directed (opening count) items m → length m.sessions ≡ count + 1
-all_there given count items m run =
-    always (λ x. length x.sessions ≡ count + 1) given Directed (λ x event n long h. as_many given (count + 1) x event n long h) items (opening count) m (length-replicate (count + 1) at_rest) run
-
-answered : Next → Result Next Refusal
-answered n = Ok n
-
-refused : Refusal → Result Next Refusal
-refused r = Err r
+pub all_there : (given : Blocks) (mode : Mode) (count : ℕ) (items : List HistItem) (m : Machine) → Run given mode (opening count) items m → length m.sessions ≡ count + 1
+all_there given mode count items m run =
+    always (λ x. length x.sessions ≡ count + 1) given mode (λ x event n long h. as_many given mode (count + 1) x event n long h) items (opening count) m (length-replicate (count + 1) at_rest) run
 
 launch_done : (allowed busy quiet : Bool) (n : Next) → allowed ≡ true → busy ≡ false → quiet ≡ true
     → (if not allowed then Err BlockNotAllowed else if busy then Err Busy else if not quiet then Err NotYourTurn else Ok n) ≡ Ok n
@@ -85,13 +79,13 @@ module _ (busy_law : BusySessionsWereLaunched) (spec : SpecTree) (blocks : Block
   does : (items : List HistItem) (m : Machine) → IsUnderWay spec blocks entries items m → (o : Order) → next_order spec entries items ≡ o → DoesOrder blocks m o
   does items m way (Launch s b) h =
       let where_it_is = placed items (Launch s b) h (stop_not s b) in
-      let long = all_there blocks (length spec.sessions) items m way.run in
+      let long = all_there blocks Directed (length spec.sessions) items m way.run in
       let v = there m.sessions s (omega (arith, where_it_is.0, long)) in
       let after = after_launch m s v.0 (first_place b (stmts_of blocks b)) in
       (after, ap (launch_of blocks Directed m s b) v.1 ∙ launch_done (may_launch blocks s b) (is_some v.0.place) (is_quiet m) after where_it_is.1 (not_busy items m s b v.0 way h v.1) way.quiet)
   does items m way (Leave s) h =
       let where_it_is = placed items (Leave s) h (stop_none s) in
-      let long = all_there blocks (length spec.sessions) items m way.run in
+      let long = all_there blocks Directed (length spec.sessions) items m way.run in
       let v = there m.sessions s (omega (arith, where_it_is, long)) in
       let after = comes_out m (left_behind m.db v.0.transaction) s at_rest Left in
       (after, ap (leave_of Directed m s) v.1 ∙ leave_done (is_quiet m) after way.quiet)

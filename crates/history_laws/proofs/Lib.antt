@@ -17,3 +17,4 @@ pub mod Given
 pub mod Files
 pub mod Whole
 pub mod Texts
+pub mod Fewer

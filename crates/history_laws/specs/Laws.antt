@@ -1,15 +1,20 @@
 -- That each permutation has a history, and each file a text. Each law stands on the contract of a function of `laws`.
-use Rattle.std.specs.Prelude.{◌≡◌, ℕ, true, List, Contains, Some, is_some, slice_get, Ok}
+use Rattle.std.specs.Prelude.{◌≡◌, ℕ, ◌<◌, true, List, [], ◌∷◌, ◌++◌, Contains, IfSome, Some, is_some, slice_get, Ok}
 use Rattle.session_machine.specs.declared.event.Mode.{Mode}
 use Rattle.session_machine.specs.declared.session.Session.{Session}
 use Rattle.session_machine.specs.declared.reply.HistItem.{HistItem}
-use Rattle.session_machine.specs.Machine.{Machine, Blocks, opening, Run}
+use Rattle.session_machine.specs.declared.event.Event.{Event}
+use Rattle.session_machine.specs.Machine.{Machine, Blocks, Next, next, opening, Run}
 use Rattle.spec_parser.specs.Trees.{EntryTree, SpecTree}
+use Rattle.report_lines.specs.Starts.{order_of}
+use Rattle.report_lines.specs.Due.{Launches}
+use Rattle.permutation_plans.specs.Launches.{due_after}
 use Rattle.permutation_lists.specs.Permutations.{permutations_of}
 use Rattle.permutation_plans.specs.Regular.{next_order, IsRegular}
 use Rattle.spec_files.specs.Files.{File, FileIs}
 use Rattle.spec_files.specs.Prints.{FileSays}
 use Rattle.history_laws.specs.Unfinished.{IsUnfinished}
+use Rattle.history_laws.specs.Left.{events_left}
 use Rattle.history_laws.specs.One.{ExactlyOne}
 use Rattle.history_laws.specs.UnderWay.{IsUnderWay, DoesOrder, HasItsBlocks, HasItsSteps}
 
@@ -27,6 +32,12 @@ NextOrdersAreDone = (spec : SpecTree) (blocks : Blocks) (entries : List EntryTre
 abbrev pub RegularHistoriesAreThere : Type 0
 RegularHistoriesAreThere = (spec : SpecTree) (blocks : Blocks) (entries : List EntryTree) → HasItsBlocks spec blocks → HasItsSteps spec entries
     → (items : List HistItem) × IsRegular spec blocks entries items
+
+-- each event of a run that carries out what is due leaves fewer events: so a run that does so comes to its end
+abbrev pub EventsAreFewer : Type 0
+EventsAreFewer = (l : Launches) (entries : List EntryTree) (blocks : Blocks) (mode : Mode) (count : ℕ) (items : List HistItem) (m : Machine) (event : Event) (n : Next)
+    → Run blocks mode (opening count) items m → next blocks mode m event ≡ Ok n → IfSome (order_of event) (λ order. due_after l entries items ≡ order)
+    → events_left l blocks count (items ++ record { event = event; reply = n.reply } ∷ []) n.machine < events_left l blocks count items m
 
 -- ---- of files
 

@@ -1,5 +1,5 @@
 //! Laws of histories and texts: each function's contract is one of them, and its body does nothing.
-ghost use Rattle.history_laws.specs.Laws.{BusySessionsWereLaunched, NextOrdersAreDone, RegularHistoriesAreThere};
+ghost use Rattle.history_laws.specs.Laws.{BusySessionsWereLaunched, NextOrdersAreDone, RegularHistoriesAreThere, EventsAreFewer};
 ghost use Rattle.history_laws.specs.Laws.{SpecsHaveTheirBlocks, EachHasAHistory, EveryFileIsOneThing, EveryFileHasAText};
 
 use permutation_lists::interleavings_keep_counts;
@@ -25,6 +25,13 @@ pub fn regular_histories_are_there()
     ensures { RegularHistoriesAreThere }
 {
     next_orders_are_done();
+    rest_is_reached();
+}
+
+/// Each event that carries out what is due leaves fewer events, so that a run comes to its end.
+pub fn events_are_fewer()
+    ensures { EventsAreFewer }
+{
     rest_is_reached();
 }
 
