@@ -24,7 +24,7 @@ use Rattle.history_laws.proofs.Resting.{rests, run_append}
 -- ---- items in order
 
 -- each Launch and Leave is due after what comes before it
-abbrev Fits : (List HistItem → Order) → List HistItem → List HistItem → Type 0
+abbrev pub Fits : (List HistItem → Order) → List HistItem → List HistItem → Type 0
 Fits due front [] = Unit {0}
 Fits due front (item ∷ items) = IfSome (order_of item.event) (λ order. due front ≡ order) × Fits due (front ++ item ∷ []) items
 
@@ -46,7 +46,7 @@ tail_is x y xs ys h = cc
 nothing_there : {A : Type 0} (y : A) (ys : List A) → (let none : List A = [] in none ≡ y ∷ ys) → ⊥
 nothing_there y ys h = cc
 
-in_order : (due : List HistItem → Order) (front items before behind : List HistItem) (item : HistItem) → Fits due front items → items ≡ before ++ item ∷ behind
+pub in_order : (due : List HistItem → Order) (front items before behind : List HistItem) (item : HistItem) → Fits due front items → items ≡ before ++ item ∷ behind
     → IfSome (order_of item.event) (λ order. due (front ++ before) ≡ order)
 in_order due front [] [] behind item fits is = absurd (nothing_there item behind is)
 in_order due front [] (b ∷ before) behind item fits is = absurd (nothing_there b (before ++ item ∷ behind) is)
