@@ -1,6 +1,7 @@
 -- A run on one thread, under way: what it did so far is in order.
-use Rattle.std.proofs.Common.{◌≡◌, ◌≢◌, true≢false, refl, ℕ, length, List, [], ◌∷◌, sym, ap, subst, ◌∙◌, Option, Some, None, false}
-use Rattle.std.specs.Prelude.{Result, Ok, Err}
+use Rattle.std.proofs.Common.{◌≡◌, ◌≢◌, true≢false, refl, ℕ, length, List, [], ◌∷◌, sym, ap, subst, ◌∙◌, Option, Some, None, false, ◌++◌, ◌<◌, arith}
+use Rattle.std.specs.Prelude.{Result, Ok, Err, IfSome}
+use Rattle.std.specs.Option.{option_map_or}
 use Rattle.session_machine.specs.declared.event.Event.{Event}
 use Rattle.session_machine.specs.declared.event.Event.TheVariants.{Launch, Step, Leave}
 use Rattle.session_machine.specs.declared.event.Order.{Order}
@@ -22,11 +23,15 @@ use Rattle.session_crews.specs.Inner.Shared.{RunsInOrder}
 use Rattle.session_seats.specs.Seats.{SeatOf, with_item}
 use Rattle.session_crews.proofs.Ordering as threads
 use Rattle.spec_parser.specs.Trees.{EntryTree, SpecTree}
+use Rattle.report_lines.specs.Starts.{order_of}
 use Rattle.report_lines.specs.Due.{Launches}
+use Rattle.wait_laws.proofs.Rest.{rest_is_reached}
+use Rattle.history_laws.specs.Left.{events_left}
+use Rattle.history_laws.proofs.Fewer.{events_are_fewer}
 use Rattle.permutation_plans.specs.Launches.{launches, due_after, due_in}
 use Rattle.plain_runs.specs.Alone.{next_event, IsOfAlone, RefusesNext}
 use Rattle.spec_files.specs.Faults.{thread_fault}
-use Rattle.plain_runs.specs.Inner.Next.{IsNextEvent}
+use Rattle.plain_runs.specs.Inner.Next.{IsNextEvent, left_in}
 use Rattle.spec_files.specs.Plans.{Planning, order_after, IsFollowing}
 use Rattle.spec_files.specs.Code.Following.{follows_longer}
 
@@ -101,6 +106,40 @@ refuses_next first plan opened e after event fault so is_next is =
       refuses = ap (λ (b : Blocks). next b opened.mode is_next.state event) (sym so.same.0) ∙ ap (λ (m : Mode). next e.blocks m is_next.state event) (sym so.same.2) ∙ refused.1;
       told = refused.2;
     }
+
+-- ---- what is left
+
+record Did (e after : Engine) (m : Machine) (event : Event) : Type 0 where
+  pub n : Next
+  pub taken : next e.blocks e.mode m event ≡ Ok n
+  pub is : after ≡ record e { machine = Some n.machine; history = e.history ++ record { event = event; reply = n.reply } ∷ [] }
+
+did : (e after : Engine) (m : Machine) (event : Event) (reply : Reply) → e.machine ≡ Some m → engine_after e event ≡ record { engine = after; answer = Ok reply } → Did e after m event
+did e after m event reply live is = by (next e.blocks e.mode m event) refl (ap (engine_step e event) (sym live) ∙ is) where
+  refused : (f : EngineFault) → ◌≡◌ {A = Result Reply EngineFault} (Err f) (Ok reply) → ⊥
+  refused f h = cc
+
+  by : (r : Result Next Refusal) → next e.blocks e.mode m event ≡ r → engine_answered e event r ≡ record { engine = after; answer = Ok reply } → Did e after m event
+  by (Err refusal) taken h = absurd (refused (fault_of refusal) (ap (λ (a : EngineAnswered). a.answer) h))
+  by (Ok n) taken h = record { n = n; taken = taken; is = sym (ap (λ (a : EngineAnswered). a.engine) h) }
+
+ordered_so : (event : Event) (order : Order) → IsOrder event order → IfSome (order_of event) (λ o. order ≡ o)
+ordered_so (Launch session block) order h = h
+ordered_so (Step session) order h = tt
+ordered_so (Leave session) order h = h
+
+-- once it was done less is left
+pub smaller : (plan now : Planning) (e after : Engine) (event : Event) (reply : Reply) → IsNextEvent e (order_after plan e.history) (Some event) → now.launches ≡ plan.launches
+    → engine_after e event ≡ record { engine = after; answer = Ok reply } → left_in now.launches after < left_in plan.launches e
+smaller plan now e after event reply is_next launches is =
+    let d = did e after is_next.state event reply is_next.live is in
+    let due = ordered_so event (order_after plan e.history) (is_order e (order_after plan e.history) event is_next) in
+    let less = events_are_fewer rest_is_reached plan.launches plan.entries e.blocks e.mode e.count e.history is_next.state event d.n is_next.run d.taken due in
+    let before : left_in plan.launches e ≡ events_left plan.launches e.blocks e.count e.history is_next.state =
+    ap (λ (m : Option Machine). option_map_or (events_left plan.launches e.blocks e.count e.history) m 0) is_next.live in
+    let behind : left_in now.launches after ≡ events_left plan.launches e.blocks e.count (e.history ++ record { event = event; reply = d.n.reply } ∷ []) d.n.machine =
+    ap (λ (l : Launches). left_in l after) launches ∙ ap (left_in plan.launches) d.is in
+    omega (arith, less, before, behind)
 
 told_as : (orders : Orders) (blocks : Blocks) (count : ℕ) (fault : EngineFault) → (fault ≢ Memory → RefusesNext orders blocks count Directed fault) → IsOfAlone orders blocks count (thread_fault (Engine_fault fault))
 told_as orders blocks count Memory refused = tt

@@ -1,5 +1,5 @@
 -- What may stand in the way of a run on one thread: memory, or what the machine refuses; and of printing such runs.
-use Rattle.std.specs.Prelude.{◌≡◌, ℕ, Bool, true, List, [], length, Contains, Option, Some, None, Ok, Err}
+use Rattle.std.specs.Prelude.{◌≡◌, ℕ, Bool, true, List, [], Option, Some, None, Ok, Err}
 use Rattle.session_machine.specs.declared.event.Event.{Event}
 use Rattle.session_machine.specs.declared.event.Event.TheVariants.{Launch, Step, Leave}
 use Rattle.session_machine.specs.declared.event.Order.{Order}
@@ -13,9 +13,6 @@ use Rattle.session_machine.specs.Machine.{Machine, Blocks, opening, next, turn_i
 use Rattle.session_machine.specs.Engine.{fault_of}
 use Rattle.session_seats.specs.declared.fault.ThreadFault.TheVariants as thread_faults
 use Rattle.session_seats.specs.Orders.{Orders, OrderedAfter}
-use Rattle.spec_parser.specs.Trees.{EntryTree, SpecTree}
-use Rattle.permutation_plans.specs.Launches.{due_in}
-use Rattle.permutation_lists.specs.Permutations.{permutations_of}
 use Rattle.spec_files.specs.Files.{File, FileIs}
 use Rattle.spec_files.specs.Runs.{is_early_end}
 use Rattle.spec_files.specs.declared.fault.RunFault.{RunFault}
@@ -46,15 +43,14 @@ IsOfAlone orders blocks count faults.Memory = Unit {0}
 IsOfAlone orders blocks count (faults.Threads (thread_faults.Engine fault)) = RefusesNext orders blocks count Directed fault
 IsOfAlone orders blocks count _ = ⊥
 
--- the faults of printing these permutations: memory was refused, a sink has failed, the run of one of them met this, or the print ended early
-abbrev pub IsOfPrint : SpecTree → Blocks → List (List EntryTree) → Bool → RunFault → Type 0
-IsOfPrint spec blocks all failed faults.Memory = Unit {0}
-IsOfPrint spec blocks all failed faults.Write = failed ≡ true
-IsOfPrint spec blocks all failed (faults.Threads f) = (entries : List EntryTree) × Contains all entries × IsOfAlone (due_in spec entries) blocks (length spec.sessions) (faults.Threads f)
-IsOfPrint spec blocks all failed e = is_early_end e ≡ true
+-- the faults of printing permutations: memory was refused, a sink has failed, or the print ended early
+abbrev pub IsOfPrint : Bool → RunFault → Type 0
+IsOfPrint failed faults.Memory = Unit {0}
+IsOfPrint failed faults.Write = failed ≡ true
+IsOfPrint failed e = is_early_end e ≡ true
 
 -- the faults of printing a file's permutations: memory was refused, the file is refused, or it is a spec whose print met this
 pub data IsOfFile (bytes : List ℕ) (failed : Bool) (e : RunFault) : Type 0 where
   memory : e ≡ faults.Memory → IsOfFile bytes failed e
   refused : FileIs bytes (Err e) → IsOfFile bytes failed e
-  prints : (file : File) → FileIs bytes (Ok file) → IsOfPrint file.spec file.blocks (permutations_of file.spec) failed e → IsOfFile bytes failed e
+  prints : (file : File) → FileIs bytes (Ok file) → IsOfPrint failed e → IsOfFile bytes failed e

@@ -8,6 +8,7 @@ ghost use Rattle.spec_parser.specs.Trees.{entry_view, spec_view};
 ghost use Rattle.spec_parser.specs.Stands.{Stands};
 ghost use Rattle.permutation_plans.specs.Launches.{due_in};
 ghost use Rattle.permutation_plans.specs.Regular.{IsRegular};
+ghost use Rattle.history_laws.specs.UnderWay.{HasItsBlocks, HasItsSteps};
 ghost use Rattle.spec_files.specs.Inner.Resting.{IsAtRest};
 ghost use Rattle.spec_files.specs.Plans.{order_after, IsFollowing};
 ghost use Rattle.plain_runs.specs.Alone.{IsOfAlone, RefusesNext};
@@ -21,7 +22,6 @@ use session_threads::{Order, ThreadFault};
 use spec_parser::{Entry, Spec};
 use sql_blocks::Block;
 use std::alloc::{AllocError, Global};
-use std::sync::Wait;
 
 /// The event that is next: a Step of the session whose turn it is, or else what the plan orders; none once it orders no
 /// more. An engine is spent where memory was refused.
@@ -49,8 +49,7 @@ fn next_event<'a, 't>(
 }
 
 /// Does what the plan orders, and each Step in its turn, until it orders no more.
-fn run_to_end<'a, 't, R: Wait>(
-    rt: &R,
+fn run_to_end<'a, 't>(
     alloc: Global,
     plan: &mut Plan<'_>,
     engine: &mut EngineState<'a, 't, ListStore>,
@@ -62,7 +61,7 @@ fn run_to_end<'a, 't, R: Wait>(
     ensures same { OnOk result (IsOf engine.new engine.old.blocks engine.old.count engine.old.mode) }
     ensures refused { IfErr result (λ fault. fault ≢ EngineFault.Memory → RefusesNext (order_after plan.old) engine.old.blocks engine.old.count engine.old.mode fault) }
 {
-    for _ in rt.forever() {
+    loop {
         let Ok(next) = next_event(alloc, plan, engine) else {
             return Err(EngineFault::Memory);
         };
@@ -71,13 +70,12 @@ fn run_to_end<'a, 't, R: Wait>(
         };
         engine.perform(event)?;
     }
-    unreachable!()
 }
 
 /// A new engine after the run of a permutation on the calling thread alone. It answers `Memory` where memory is refused, and
-/// `Threads` with an engine's fault where the machine refuses what is next: the blocks may be any.
-pub fn run_alone<'a, 't, R: Wait>(
-    rt: &R,
+/// `Threads` with an engine's fault where the machine refuses what is next: the blocks may be any. With the blocks and the
+/// steps that the spec names nothing is refused.
+pub fn run_alone<'a, 't>(
     alloc: Global,
     spec: &Spec<'_>,
     blocks: &'a [Block<'t>],
@@ -87,12 +85,13 @@ pub fn run_alone<'a, 't, R: Wait>(
     ensures regular { IfOk result (λ e. IsRegular (spec_view spec.now) (blocks_of blocks.now) (map entry_view entries.now) e.history) }
     ensures unbroken { result ≢ Err RunFault.ScheduleBroken }
     ensures faults { IfErr result (IsOfAlone (due_in (spec_view spec.now) (map entry_view entries.now)) (blocks_of blocks.now) (length (spec_view spec.now).sessions)) }
+    ensures sure { HasItsBlocks (spec_view spec.now) (blocks_of blocks.now) → HasItsSteps (spec_view spec.now) (map entry_view entries.now) → IfErr result (λ e. e ≡ RunFault.Memory) }
 {
     let sessions = spec.sessions.len() as u32;
     let store = ListStore::new(alloc);
     let mut engine = EngineState::new(alloc, blocks, sessions, Mode::Directed, store)?;
     let mut plan = Plan::new(alloc, spec, entries)?;
-    if let Err(fault) = run_to_end(rt, alloc, &mut plan, &mut engine) {
+    if let Err(fault) = run_to_end(alloc, &mut plan, &mut engine) {
         return Err(ThreadFault::Engine(fault).into());
     }
     Ok(engine)

@@ -1,14 +1,13 @@
 use Rattle.std.proofs.Common.{◌≡◌, ◌∷◌, ◌<◌, ◌||◌, [], List, Err, subst, rules, arith, refl, sym}
 use Rattle.std.specs.Prelude.{Contains}
-use Rattle.std.proofs.lemmas.List.Elements.{Contains-append_left, Contains-append_right}
+use Rattle.std.proofs.lemmas.List.Elements.{Contains-append_left, Contains-append_right, Contains-push}
 use Rattle.std.proofs.lemmas.Result.{err_from_is_err_and}
 use Rattle.sql_blocks.specs.Blocks.{blocks_of}
 use Rattle.spec_parser.specs.Trees.{EntryTree, spec_view}
 use Rattle.permutation_lists.specs.Permutations.{Coming, permutations_of}
 use Rattle.spec_files.specs.Runs.{IsOneTold}
 use Rattle.spec_files.proofs.Printing.{SoFar, starts, goes_on, all_ran, one_too_many, run_stops}
-use Rattle.plain_runs.specs.Alone.{IsOfPrint}
-use Rattle.plain_runs.proofs.Ending.{of_more}
+use Rattle.history_laws.specs.UnderWay.{HasItsSteps}
 use Rattle.plain_runs.proofs.print.print_all.Goals as goal
 
 pub loop-permutations-init : goal.loop-permutations-init
@@ -54,17 +53,19 @@ returns-in_err-print_one-clause-told g c =
     c.in_err-print_one.field-0.0 c.loop-permutations.invariant.0 more some one in
     (end.said, end.prints, end.told))
 
-pub returns-in_err-print_one-clause-faults : goal.returns-in_err-print_one-clause-faults
-returns-in_err-print_one-clause-faults g c =
+pub print_one-requires-clause-steps : goal.print_one-requires-clause-steps
+print_one-requires-clause-steps g c =
+    let spec = spec_view c.args.spec.now in
     let here = c.advance.new.self.here in
     let more : c.loop-permutations.permutations.more ≡ here ∷ c.advance.new.self.more = search rules in
-    let within : (p : List EntryTree) → Contains (here ∷ []) p → Contains (permutations_of (spec_view c.args.spec.now)) p =
-    λ p is. c.loop-permutations.invariant.1 p (subst (λ (ps : List (List EntryTree)). Contains ps p) (sym more) (Contains-append_left (here ∷ []) c.advance.new.self.more p is)) in
-    let e = c.in_err-print_one.field-0.0 in
-    let failed = g.W.Sink.failed c.print_one.new.out || g.N.Sink.failed c.print_one.new.notes in
-    let met = subst (λ (p : List EntryTree). IsOfPrint (spec_view c.args.spec.now) (blocks_of c.args.blocks.now) (p ∷ []) failed e) c.entries.ensures c.in_err-print_one.ensures.faults in
+    let there : Contains (permutations_of spec) here =
+    c.loop-permutations.invariant.1 here (subst (λ (ps : List (List EntryTree)). Contains ps here) (sym more) (Contains-append_left (here ∷ []) c.advance.new.self.more here (Contains-push [] here))) in
+    subst (HasItsSteps spec) (sym c.entries.ensures) (c.requires.steps here there)
+
+pub returns-in_err-print_one-clause-faults : goal.returns-in_err-print_one-clause-faults
+returns-in_err-print_one-clause-faults g c =
     let p = err_from_is_err_and c.from_residual-in_err-print_one.result c.from_residual-in_err-print_one.ensures.1 in
-    rw (p.1, p.2) (of_more (spec_view c.args.spec.now) (blocks_of c.args.blocks.now) (here ∷ []) (permutations_of (spec_view c.args.spec.now)) failed e within met)
+    rw (p.1, p.2) c.in_err-print_one.ensures.faults
 
 pub returns-then-left-eq0-clause-told : goal.returns-then-left-eq0-clause-told
 returns-then-left-eq0-clause-told g c =

@@ -1,5 +1,4 @@
-use Rattle.std.proofs.Common.{◌||◌, ap, subst}
-use Rattle.std.specs.Prelude.{IfErr}
+use Rattle.std.proofs.Common.{◌||◌, ap, subst, sym}
 use Rattle.std.proofs.lemmas.Result.{err_from_is_err_and, IfErr-weaker}
 use Rattle.session_machine.specs.Machine.{Blocks}
 use Rattle.sql_blocks.specs.Blocks.{blocks_of}
@@ -7,7 +6,7 @@ use Rattle.permutation_lists.specs.Permutations.{permutations_of}
 use Rattle.spec_files.specs.BlockAnswers.{file_view}
 use Rattle.spec_files.specs.Prints.{Prints}
 use Rattle.spec_files.proofs.Whole.{room_of}
-use Rattle.spec_parser.specs.Trees.{spec_view}
+use Rattle.history_laws.specs.UnderWay.{HasItsBlocks}
 use Rattle.plain_runs.specs.Alone.{IsOfFile, IsOfPrint, prints}
 use Rattle.plain_runs.proofs.Ending.{no_refusal, of_reading}
 use Rattle.plain_runs.proofs.print.print_alone.Goals as goal
@@ -25,23 +24,25 @@ returns-in_err-file-clause-faults g c =
     let p = err_from_is_err_and c.from_residual.result c.from_residual.ensures.1 in
     rw (p.1, p.2) (of_reading c.args.bytes.now _ c.in_err-file.field-0.0 c.in_err-file.ensures.err)
 
+pub print_all-requires-clause-blocks : goal.print_all-requires-clause-blocks
+print_all-requires-clause-blocks g c =
+    let file = file_view c.in_ok-file.file in
+    let there = c.specs_have_their_blocks.ensures c.args.bytes.now file c.in_ok-file.ensures.ok in
+    subst (HasItsBlocks file.spec) (sym (ap blocks_of c.deref.ensures.value)) there.0
+
+pub print_all-requires-clause-steps : goal.print_all-requires-clause-steps
+print_all-requires-clause-steps g c =
+    (c.specs_have_their_blocks.ensures c.args.bytes.now (file_view c.in_ok-file.file) c.in_ok-file.ensures.ok).1
+
 pub returns-clause-faults : goal.returns-clause-faults
 returns-clause-faults g c =
-    let file = file_view c.in_ok-file.file in
-    let blocks = ap blocks_of c.deref.ensures.value in
     let failed = g.W.Sink.failed c.print_all.new.out || g.N.Sink.failed c.print_all.new.notes in
-    let met : IfErr c.print_all.result (IsOfPrint file.spec file.blocks (permutations_of file.spec) failed) =
-    subst (λ (bs : Blocks). IfErr c.print_all.result (IsOfPrint file.spec bs (permutations_of file.spec) failed)) blocks c.print_all.ensures.faults in
-    IfErr-weaker c.print_all.result (IsOfPrint file.spec file.blocks (permutations_of file.spec) failed) (IsOfFile c.args.bytes.now failed)
-    (λ e is. prints file c.in_ok-file.ensures.ok is) met
+    IfErr-weaker c.print_all.result (IsOfPrint failed) (IsOfFile c.args.bytes.now failed) (λ e is. prints (file_view c.in_ok-file.file) c.in_ok-file.ensures.ok is) c.print_all.ensures.faults
 
 pub returns-clause-untouched : goal.returns-clause-untouched
 returns-clause-untouched g c =
-    let spec = spec_view c.in_ok-file.file.spec in
-    let blocks = blocks_of c.deref.result.now in
-    let all = permutations_of spec in
     let failed = g.W.Sink.failed c.print_all.new.out || g.N.Sink.failed c.print_all.new.notes in
-    IfErr-weaker c.print_all.result (IsOfPrint spec blocks all failed) _ (λ e is refusal. absurd (no_refusal spec blocks all failed e is refusal)) c.print_all.ensures.faults
+    IfErr-weaker c.print_all.result (IsOfPrint failed) _ (λ e is refusal. absurd (no_refusal failed e is refusal)) c.print_all.ensures.faults
 
 pub returns-clause-room : goal.returns-clause-room
 returns-clause-room g c = λ _. room_of c.args.bytes.now (file_view c.in_ok-file.file) c.in_ok-file.ensures.ok

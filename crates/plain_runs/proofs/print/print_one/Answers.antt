@@ -11,12 +11,12 @@ use Rattle.plain_runs.proofs.print.print_one.Goals as goal
 pub returns-in_err-engine-clause-told : goal.returns-in_err-engine-clause-told
 returns-in_err-engine-clause-told g c =
     let p = err_from_is_err_and c.from_residual.result c.from_residual.ensures.1 in
-    rw (p.1, p.2) (λ early. absurd (true≢false (sym early ∙ no_end _ _ _ c.in_err-engine.field-0.0 c.in_err-engine.ensures.faults)))
+    rw (p.1, p.2) (λ early. absurd (true≢false (sym early ∙ no_end c.in_err-engine.field-0.0 (c.in_err-engine.ensures.sure c.requires.blocks c.requires.steps))))
 
 pub returns-in_err-engine-clause-faults : goal.returns-in_err-engine-clause-faults
 returns-in_err-engine-clause-faults g c =
     let p = err_from_is_err_and c.from_residual.result c.from_residual.ensures.1 in
-    rw (p.1, p.2) (of_run (spec_view c.args.spec.now) (blocks_of c.args.blocks.now) (map entry_view c.args.entries.now) _ c.in_err-engine.field-0.0 c.in_err-engine.ensures.faults)
+    rw (p.1, p.2) (of_run _ c.in_err-engine.field-0.0 (c.in_err-engine.ensures.sure c.requires.blocks c.requires.steps))
 
 pub returns-in_err-write_permutation-clause-told : goal.returns-in_err-write_permutation-clause-told
 returns-in_err-write_permutation-clause-told g c =
@@ -46,7 +46,7 @@ returns-in_err-write_permutation-clause-faults g c =
     let e = c.in_err-write_permutation.field-0.0 in
     let written = c.in_err-write_permutation.ensures in
     let p = err_from_is_err_and c.from_residual-in_err-write_permutation.result c.from_residual-in_err-write_permutation.ensures.1 in
-    rw (p.1, p.2) (of_report spec blocks (entries ∷ []) (fn || gn) e
+    rw (p.1, p.2) (of_report (fn || gn) e
     (told_kind spec blocks entries c.history.result.now wo wn eo en fo fn go gn e written)
     (told_broken spec blocks entries c.history.result.now wo wn eo en fo fn go gn e written)
     (told_write spec blocks entries c.history.result.now wo wn eo en fo fn go gn e written))
