@@ -55,12 +55,12 @@ fn by_threads<R: Threads + Wait + Sync>(
 }
 
 /// The reports of all permutations, without the line that comes before them.
-fn by_one_thread<R: Wait>(rt: &R, alloc: Global, spec: &str) -> Result<Printed, RunFault> {
+fn by_one_thread(alloc: Global, spec: &str) -> Result<Printed, RunFault> {
     let mut text = Vec::new(alloc);
     let mut notes = Vec::new(alloc);
     let mut out = FromStd::new(&mut text);
     let mut told = FromStd::new(&mut notes);
-    print_alone(rt, alloc, spec.as_bytes(), &mut out, &mut told, MOST)?;
+    print_alone(alloc, spec.as_bytes(), &mut out, &mut told, MOST)?;
     Ok(Printed { text, notes })
 }
 
@@ -73,7 +73,7 @@ fn prints_the_same<R: Threads + Wait + Sync + Abort>(
     spec: &str,
 ) -> Result<(), RunFault> {
     let threads = by_threads(rt, alloc, spec)?;
-    let alone = by_one_thread(rt, alloc, spec)?;
+    let alone = by_one_thread(alloc, spec)?;
     let text = threads.text.as_slice();
     holds(rt, text.starts_with(FIRST_LINE), "the first line");
     holds(

@@ -4,10 +4,8 @@ use anyhow::{Result, bail};
 use iso_lexer::{FromStd, LONGEST_FILE, read_all};
 use plain_runs::print_alone;
 use std::io::{self, BufWriter, Write};
-use std::sync::Wait;
 
-/// The same runtime twice: as what the program is given, and as what a run may wait by.
-pub fn run<R: Wait>(host: &HostRuntime, rt: &R) -> Result<()> {
+pub fn run(host: &HostRuntime) -> Result<()> {
     let mut input = FromStd::new(host.reader());
     let Ok(bytes) = read_all(host.alloc(), &mut input, LONGEST_FILE + 1) else {
         bail!("standard input can't be read");
@@ -15,7 +13,7 @@ pub fn run<R: Wait>(host: &HostRuntime, rt: &R) -> Result<()> {
     let mut text = BufWriter::new(host.alloc(), io::writer(host))?;
     let mut out = FromStd::new(&mut text);
     let mut notes = FromStd::new(host.stderr());
-    if print_alone(rt, host.alloc(), &bytes, &mut out, &mut notes, u64::MAX).is_err() {
+    if print_alone(host.alloc(), &bytes, &mut out, &mut notes, u64::MAX).is_err() {
         bail!("the run ended early");
     }
     text.flush()?;

@@ -4,6 +4,7 @@ use crate::rows::scene_of;
 use crate::scene::{Launch, Scene};
 use anyhow::{Result, bail};
 use chain_store::ChainStore as Store;
+use iso_lexer::MOST_SESSIONS;
 use session_core::{EngineState, replays};
 use session_machine::{Event, HistItem, Mode, Outcome, Reply, Turn};
 use sql_parser::Block;
@@ -70,7 +71,7 @@ fn measure<'a, 't>(
     if !scene.replays {
         return launch_all(engine, scene.parts().1);
     }
-    let count = scene.sessions().min(64);
+    let count = scene.sessions().min(MOST_SESSIONS as u32);
     if !replays(rt.alloc(), blocks, count, Mode::Directed, engine.history())? {
         bail!("the history doesn't replay");
     }
@@ -94,7 +95,7 @@ fn time<'a, 't>(
 /// Runs that much of the scene. What it takes to give memory back isn't to be counted, so it is kept.
 fn run_scene(rt: &HostRuntime, scene: &Scene, extent: Extent) -> Result<()> {
     let blocks = scene.blocks()?;
-    let count = scene.sessions().min(64);
+    let count = scene.sessions().min(MOST_SESSIONS as u32);
     let store = Store::new(rt.alloc());
     let mut engine = EngineState::new(rt.alloc(), &blocks, count, Mode::Directed, store)?;
     launch_all(&mut engine, scene.parts().0)?;

@@ -15,7 +15,6 @@ mod steps;
 use crate::growth::Extent;
 use anyhow::{Result, bail};
 use std::env;
-use std::sync::Wait;
 
 fn extent_of(word: Option<String>) -> Result<Extent> {
     let Some(word) = word else {
@@ -38,9 +37,9 @@ fn run_growth(rt: &HostRuntime) -> Result<()> {
     growth::run(rt, what.as_str(), size.as_str().parse::<u32>()?, extent)
 }
 
-fn timed<R: Wait>(rt: &HostRuntime, waits: &R, word: &str) -> Result<()> {
+fn timed(rt: &HostRuntime, word: &str) -> Result<()> {
     match word {
-        "alone" => alone::run(rt, waits),
+        "alone" => alone::run(rt),
         "growth" => run_growth(rt),
         "reading" => reading::run(rt, true),
         "sorting" => sorting::run(rt, true),
@@ -51,7 +50,7 @@ fn timed<R: Wait>(rt: &HostRuntime, waits: &R, word: &str) -> Result<()> {
 
 fn main(rt: HostRuntime) -> Result<()> {
     match env::args(&rt)?.nth(1) {
-        Some(word) => timed(&rt, &rt, word.as_str()),
+        Some(word) => timed(&rt, word.as_str()),
         None => {
             reading::run(&rt, false)?;
             sorting::run(&rt, false)?;

@@ -2,6 +2,7 @@
 
 use crate::scene::Scene;
 use anyhow::{Result, bail};
+use iso_lexer::MOST_SESSIONS;
 use std::alloc::Global;
 
 const SELECT: &str = "SELECT k, v FROM t";
@@ -17,8 +18,6 @@ const LAST: &str = "BEGIN; UPDATE t SET v = v + 1 WHERE k = 1";
 const ALL: &str = "BEGIN; UPDATE t SET v = v + 1";
 
 const FEW: &str = "SELECT k, v FROM few";
-/// Beside the control session there are at most so many.
-const MOST_SESSIONS: u32 = 64;
 
 /// A statement over all rows.
 fn over_all(scene: &mut Scene, what: &str) -> Result<()> {
@@ -67,7 +66,7 @@ fn resumed(scene: &mut Scene) -> Result<()> {
 /// All sessions that there may be wait at the last of all rows.
 fn waiters_beside(scene: &mut Scene) -> Result<()> {
     scene.fill()?;
-    scene.wait(MOST_SESSIONS, LAST)
+    scene.wait(MOST_SESSIONS as u32, LAST)
 }
 
 fn filled(scene: &mut Scene) -> Result<()> {
@@ -105,7 +104,7 @@ fn write(scene: &mut Scene, what: &str) -> Result<()> {
         "hot-row" => statements(scene, 1),
         "replays" => history(scene),
         "resumed" => resumed(scene),
-        "waiters" => scene.wait(scene.size.min(MOST_SESSIONS), OF_FEW),
+        "waiters" => scene.wait(scene.size.min(MOST_SESSIONS as u32), OF_FEW),
         "waiters-beside" => waiters_beside(scene),
         _ => over_all(scene, what),
     }
