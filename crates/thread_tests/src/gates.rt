@@ -39,14 +39,6 @@ impl Meeting {
 }
 
 impl Gate for Meeting {
-    fn tries(&self) -> u64 {
-        1
-    }
-
-    fn admits(&self, _event: Event) -> bool {
-        true
-    }
-
     fn answered(&self, event: Event, _reply: &Reply<'_>) {
         if let Event::Step { .. } = event {
             self.came.fetch_add(1, Ordering::SeqCst);
@@ -74,14 +66,6 @@ impl Telling {
 }
 
 impl Gate for Telling {
-    fn tries(&self) -> u64 {
-        1
-    }
-
-    fn admits(&self, _event: Event) -> bool {
-        true
-    }
-
     fn answered(&self, event: Event, reply: &Reply<'_>) {
         let told = match session_of(event) {
             1 => &self.first,
@@ -110,6 +94,4 @@ impl Gate for Shut {
         yield_now();
         false
     }
-
-    fn answered(&self, _event: Event, _reply: &Reply<'_>) {}
 }

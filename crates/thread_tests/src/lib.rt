@@ -25,6 +25,8 @@ mod run_faults;
 #[cfg(test)]
 mod run_limits;
 #[cfg(test)]
+mod running;
+#[cfg(test)]
 mod seats;
 #[cfg(test)]
 mod signs;

@@ -3,26 +3,22 @@ ghost use Rattle.std.specs.Prelude.{◌≡◌};
 ghost use Rattle.session_machine.specs.Machine.{session_of};
 
 use crate::asking::holds;
+use crate::free_runs::blocks;
 use row_versions::ListStore;
 use session_core::EngineState;
 use session_machine::{Event, Mode};
 use session_threads::{Seat, ThreadFault, act, close};
-use sql_parser::{Block, Role, parse_block};
+use sql_parser::Block;
 use std::alloc::{AllocError, Global};
 use std::test::Fail;
 
-fn blocks<'t>(alloc: Global) -> Result<Vec<Block<'t>>, Fail> {
-    let mut blocks = Vec::new(alloc);
-    for text in [
-        "CREATE TABLE t (x int); INSERT INTO t VALUES (1);",
-        "BEGIN ISOLATION LEVEL REPEATABLE READ; SELECT * FROM t;",
-        "INSERT INTO t VALUES (2);",
-        "SELECT * FROM t;",
-    ] {
-        blocks.push(parse_block(alloc, text, Role::Main).map_err(|_| "a block")?)?;
-    }
-    Ok(blocks)
-}
+/// The blocks of the run.
+const TEXTS: [&str; 4] = [
+    "CREATE TABLE t (x int); INSERT INTO t VALUES (1);",
+    "BEGIN ISOLATION LEVEL REPEATABLE READ; SELECT * FROM t;",
+    "INSERT INTO t VALUES (2);",
+    "SELECT * FROM t;",
+];
 
 /// What a session is given.
 #[derive(Clone, Copy)]
@@ -67,7 +63,10 @@ fn do_one<'t>(
     given: Given,
 ) -> Result<(), Fail> {
     let event = event_of(seat.session(), given);
-    Ok(act(engine, seat, event).map_err(|_| "an event")?)
+    match act(engine, seat, event) {
+        Ok(()) => Ok(()),
+        Err(_) => Err("an event that is refused".into()),
+    }
 }
 
 /// The seats behind that history.
@@ -122,19 +121,33 @@ fn changed<'t>(
     Ok(changed)
 }
 
+/// The seats behind that history, changed.
+fn changed_after<'t>(
+    alloc: Global,
+    engine: &mut EngineState<'_, 't, ListStore>,
+    hands: Hands,
+) -> Result<Vec<Seat<'t>>, Fail> {
+    let seats = seats_of(alloc, engine)?;
+    Ok(changed(alloc, seats, hands)?)
+}
+
 /// What `close` finds wrong with the seats after a run of two sessions.
 fn found(alloc: Global, blocks: &[Block<'_>], hands: Hands) -> Result<Option<ThreadFault>, Fail> {
     let store = ListStore::new(alloc);
     let mut engine = EngineState::new(alloc, blocks, 2, Mode::Directed, store)?;
-    let seats = seats_of(alloc, &mut engine)?;
-    let changed = changed(alloc, seats, hands)?;
-    Ok(close(engine, changed).err())
+    match changed_after(alloc, &mut engine, hands) {
+        Ok(seats) => Ok(close(engine, seats).err()),
+        Err(fail) => {
+            engine.end();
+            Err(fail)
+        }
+    }
 }
 
 #[test]
 fn close_compares_seats(rt: HostRuntime) -> Result<(), Fail> {
     let alloc = rt.alloc();
-    let blocks = blocks(alloc)?;
+    let blocks = blocks(alloc, 4, &TEXTS)?;
     for (hands, session, of) in [
         (Hands::All, None, "all seats"),
         (Hands::WithoutTwo, Some(2), "without seat 2"),
@@ -142,7 +155,10 @@ fn close_compares_seats(rt: HostRuntime) -> Result<(), Fail> {
         (Hands::NewZero, Some(0), "a new seat 0"),
         (Hands::TwoMore, Some(7), "seats 9 and 7"),
     ] {
-        let expected = session.map(|session| ThreadFault::SeatMismatch { session });
+        let expected = match session {
+            Some(session) => Some(ThreadFault::SeatMismatch { session }),
+            None => None,
+        };
         holds(&rt, found(alloc, &blocks, hands)? == expected, of);
     }
     Ok(())

@@ -6,5 +6,5 @@ use Rattle.session_seats.proofs.free.Runner.TheSendSync.{the_send as runner_send
 use Rattle.session_crews.proofs.free.start_scripts.Goals as goal
 
 -- what a thread is lent may cross to it
-pub start_thread-requires-send-F : goal.start_thread-requires-send-F
-start_thread-requires-send-F g c κs within = search (sendable, mutex_sync, condvar_sync, runner_send, free_shared_send) depth 60 fits 10000
+pub start_thread-started-requires-send-F : goal.start_thread-started-requires-send-F
+start_thread-started-requires-send-F g c κs within = search (sendable, mutex_sync, condvar_sync, runner_send, free_shared_send) depth 60 fits 10000
