@@ -83,6 +83,5 @@ pub fn drafts_of<G: Gate, R: Threads + Wait + Sync>(
         let draft = draft_of(alloc, spec, blocks, entries, run);
         drafts.push(draft).unwrap();
     }
-    drop(runs);
     drafts
 }

@@ -76,7 +76,6 @@ fn runs_together<'a, 't, G: Gate, R: Threads + Wait + Sync>(
     let sessions = spec.sessions.len() as u32;
     let runs = plans_of(alloc, spec, taken);
     if runs.len() != taken.len() {
-        leave_plans(runs);
         return None;
     }
     match run_each(rt, alloc, blocks, sessions, runs, gate) {
@@ -84,9 +83,6 @@ fn runs_together<'a, 't, G: Gate, R: Threads + Wait + Sync>(
         Err(_) => None,
     }
 }
-
-/// Lets plans go.
-fn leave_plans<T: Drop>(_runs: Vec<T>) {}
 
 /// The closed run of a permutation, by a crew of its own. Its launches are the permutation's: what the plan doesn't give is
 /// never launched.

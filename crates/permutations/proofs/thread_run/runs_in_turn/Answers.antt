@@ -25,7 +25,7 @@ loop-entries-preserved g c =
     let long : length (take n c.args.taken.now) ≡ n = grind (arith, common_steps, within) in
     let lent : c.deref.result.now ≡ c.entries-item.result.items = c.deref.ensures.value in
     let is : IfOk run (RanAs (spec_view c.args.spec.now) (blocks_of c.args.blocks.now) (perm_view c.entries-item.result)) =
-        subst (λ es. IfOk run (RanAs (spec_view c.args.spec.now) (blocks_of c.args.blocks.now) (map entry_view es))) lent c.run_alone-run.ensures in
+    subst (λ es. IfOk run (RanAs (spec_view c.args.spec.now) (blocks_of c.args.blocks.now) (map entry_view es))) lent c.run_alone-run.ensures in
     record {
       count = ap length pushed ∙ length_push so_far run ∙ ap (λ k. k + 1) before.count;
       long = search (rules, arith);
