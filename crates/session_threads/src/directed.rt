@@ -41,10 +41,10 @@ fn open_each<'a, 't, V: Versions, O: Orderings, D: Driver<V> + Drop>(
     requires empty { All (λ run. V.content run.store ≡ empty_content) runs.items }
     requires follows { All (λ run. D.follows run.driver []) runs.items }
     requires orders { AreFrom O.orders 0 (map (λ run. D.order_after run.driver) runs.items) }
-    ensures count { IfOk result (λ opened. length opened.items ≡ length runs.items) }
-    ensures new { IfOk result (λ opened. All (λ run. run.engine.state ≡ opened (blocks_of blocks.now) sessions Mode.Directed) opened.items) }
-    ensures follows { IfOk result (λ opened. All (λ run. D.follows run.driver.driver []) opened.items) }
-    ensures orders { IfOk result (λ opened. All (λ run. D.order_after run.driver.driver ≡ O.orders run.place) opened.items) }
+    ensures count { IfOk result (λ all. length all.items ≡ length runs.items) }
+    ensures new { IfOk result (λ all. All (λ run. run.engine.state ≡ opened (blocks_of blocks.now) sessions Mode.Directed) all.items) }
+    ensures follows { IfOk result (λ all. All (λ run. D.follows run.driver.driver []) all.items) }
+    ensures orders { IfOk result (λ all. All (λ run. D.order_after run.driver.driver ≡ O.orders run.place) all.items) }
 {
     let mut all = Vec::with_capacity(alloc, runs.len())?;
     for run in runs {

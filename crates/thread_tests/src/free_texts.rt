@@ -103,7 +103,7 @@ session u setup { UPDATE t SET x = 3; } step b { SELECT 1; }",
 fn setups_that_fail_or_wait_are_answered(rt: HostRuntime) -> Result<(), Fail> {
     for (spec, waits) in SETUPS {
         let ended = free(&rt, rt.alloc(), spec, &OpenGate);
-        let well = match ended.answer {
+        let well = match &ended.answer {
             Err(RunFault::SetupFailed { .. }) => !waits,
             Err(RunFault::SetupWaits) => waits,
             _ => false,
