@@ -21,7 +21,7 @@ impl<'a, 't, V: Versions> Engine for Held<'a, 't, V> {
     ghost engine = { λ held. held.state };
 
     fn events(&self) -> usize {
-        self.state.history().len()
+        self.state.events()
     }
 
     fn sessions(&self) -> u32 {
