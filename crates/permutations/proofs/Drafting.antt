@@ -9,11 +9,7 @@ use Rattle.spec_parser.specs.Trees.{SpecTree, perm_view}
 use Rattle.spec_files.specs.declared.draft.Draft.{Draft}
 use Rattle.spec_files.specs.Drafts.{AreDrafts, entries_read}
 use Rattle.spec_files.specs.Plans.{Planning}
-use Rattle.std.specs.Prelude.{Result, IfOk}
-use Rattle.session_machine.specs.Machine.{Blocks}
-use Rattle.session_seats.specs.declared.fault.ThreadFault.{ThreadFault}
-use Rattle.session_threads.specs.Closing.{ClosedOf}
-use Rattle.permutations.specs.Inner.Runs.{ArePlans, IsPlanOf, RanAs, RanAsEach}
+use Rattle.permutations.specs.Inner.Runs.{ArePlans, IsPlanOf}
 
 -- one more plan
 pub planned_more : (spec : SpecTree) (taken : List (Vec Entry)) (plans : List Planning) (entries : Vec Entry) (plan : Planning)
@@ -80,28 +76,3 @@ planned_on {R = R} driver spec n taken entries so_far now run count lt it long a
 pub all_more : {X : Type 0} (so_far now : List X) (x : X) (P : X → Type 0) → All P so_far → P x → now ≡ so_far ++ x ∷ [] → All P now
 all_more {X = X} so_far now x P all is pushed =
     subst (All P) (sym pushed) (All-append P so_far (x ∷ []) all (only P x is))
-
--- runs of some are runs of more
-pub ran_front : (spec : SpecTree) (blocks : Blocks) (taken behind : List (Vec Entry)) (runs : List (Result ClosedOf ThreadFault)) → RanAsEach spec blocks taken runs → RanAsEach spec blocks (taken ++ behind) runs
-ran_front spec blocks taken behind [] ran = tt
-ran_front spec blocks [] behind (r ∷ rs) ran = absurd ran
-ran_front spec blocks (e ∷ es) behind (r ∷ rs) ran = (ran.0, ran_front spec blocks es behind rs ran.1)
-
-pub ran_of_all : (spec : SpecTree) (blocks : Blocks) (n : ℕ) (taken : List (Vec Entry)) (runs : List (Result ClosedOf ThreadFault)) → RanAsEach spec blocks (take n taken) runs → RanAsEach spec blocks taken runs
-ran_of_all spec blocks n taken runs ran = subst (λ (es : List (Vec Entry)). RanAsEach spec blocks es runs) (take-append-drop n taken) (ran_front spec blocks (take n taken) (drop n taken) runs ran)
-
-ran_more : (spec : SpecTree) (blocks : Blocks) (taken : List (Vec Entry)) (runs : List (Result ClosedOf ThreadFault)) (entries : Vec Entry) (run : Result ClosedOf ThreadFault)
-    → length runs ≡ length taken → RanAsEach spec blocks taken runs → IfOk run (RanAs spec blocks (perm_view entries)) → RanAsEach spec blocks (taken ++ entries ∷ []) (runs ++ run ∷ [])
-ran_more spec blocks [] [] entries run same ran is = (is, tt)
-ran_more spec blocks [] (r ∷ rs) entries run same ran is = absurd ran
-ran_more spec blocks (e ∷ es) [] entries run same ran is = absurd (omega (arith, same))
-ran_more spec blocks (e ∷ es) (r ∷ rs) entries run same ran is = (ran.0, ran_more spec blocks es rs entries run (omega (arith, same)) ran.1 is)
-
--- one more run, of the next one
-pub ran_on : (spec : SpecTree) (blocks : Blocks) (n : ℕ) (taken : List (Vec Entry)) (entries : Vec Entry) (so_far now : List (Result ClosedOf ThreadFault)) (run : Result ClosedOf ThreadFault)
-    → length so_far ≡ n → n < length taken → get_or taken n entries ≡ entries → length (take n taken) ≡ n → RanAsEach spec blocks (take n taken) so_far → IfOk run (RanAs spec blocks (perm_view entries))
-    → now ≡ so_far ++ run ∷ [] → RanAsEach spec blocks (take (n + 1) taken) now
-ran_on spec blocks n taken entries so_far now run count lt it long ran is pushed =
-    let front : take (n + 1) taken ≡ take n taken ++ entries ∷ [] = take_more taken n entries lt ∙ ap (λ (e : Vec Entry). take n taken ++ e ∷ []) it in
-    subst (λ (es : List (Vec Entry)). RanAsEach spec blocks es now) (sym front)
-    (subst (RanAsEach spec blocks (take n taken ++ entries ∷ [])) (sym pushed) (ran_more spec blocks (take n taken) so_far entries run (count ∙ sym long) ran is))

@@ -1,6 +1,6 @@
 -- A run that came to its end.
 use Rattle.std.proofs.Common.{◌≡◌, ℕ, length, map, refl, List, [], ◌∷◌, Option, Some, None, true, ap, sym, subst, ◌∙◌, arith}
-use Rattle.std.specs.Prelude.{IfSome, MatchOption, Result, Ok, Err, IfOk}
+use Rattle.std.specs.Prelude.{IfSome, MatchOption, Result, IfOk}
 use Rattle.std.specs.Global.{Vec}
 use Rattle.std.proofs.lemmas.Result.{IfOk-weaker}
 use Rattle.session_machine.specs.declared.event.Mode.{Mode}
@@ -9,19 +9,18 @@ use Rattle.session_machine.specs.Machine.{Machine, Blocks, opening, Run}
 use Rattle.session_machine.specs.Engine.{Engine, is_quiet_in, opened}
 use Rattle.session_core.specs.Engines.{IsOf}
 use Rattle.session_seats.specs.declared.fault.ThreadFault.{ThreadFault}
-use Rattle.session_seats.specs.Orders.{IsDriven}
 use Rattle.session_threads.specs.Closing.{ClosedOf}
 use Rattle.session_threads.specs.Crews.{RanByEach}
 use Rattle.spec_parser.specs.declared.tree.Entry.{Entry}
 use Rattle.spec_parser.specs.Trees.{EntryTree, SpecTree, perm_view}
-use Rattle.permutation_plans.specs.Launches.{due_in, launches}
+use Rattle.permutation_plans.specs.Launches.{due_in}
 use Rattle.permutation_plans.specs.Regular.{IsRegular}
 use Rattle.permutation_plans.proofs.Next.{regular_of}
 use Rattle.permutation_plans.specs.Code.Fits.{FitsAfter}
 use Rattle.spec_files.specs.Inner.Resting.{IsAtRest}
 use Rattle.spec_files.specs.Plans.{Planning, order_after}
 use Rattle.spec_files.proofs.Driven.{plan_fits}
-use Rattle.permutations.specs.Inner.Runs.{ArePlans, IsPlanOf, RanAs, RanAsEach}
+use Rattle.permutations.specs.Inner.Runs.{ArePlans, RanAs, RanAsEach}
 
 rests_in : (e : Engine) (machine : Option Machine) → is_quiet_in machine ≡ true → IfSome machine (λ m. Run e.blocks e.mode (opening e.count) e.history m) → IsAtRest e
 rests_in e None quiet leads = absurd cc
@@ -75,15 +74,3 @@ pub ran_as_all : {R : Type 0} (driver : R → Planning) (spec : SpecTree) (block
     → count ≡ length spec.sessions → ArePlans spec taken (map driver plans) → RanByEach blocks count (map (λ (plan : R). order_after (driver plan)) plans) runs → RanAsEach spec blocks taken runs
 ran_as_all {R = R} driver spec blocks count taken plans runs same are ran =
     ran_as_each driver spec blocks taken plans runs are (subst (λ (n : ℕ). RanByEach blocks n (map (λ (plan : R). order_after (driver plan)) plans) runs) same ran)
-
--- a run that a plan of the permutation has driven is one of the permutation
-pub ran_as : {E : Type 0} (spec : SpecTree) (blocks : Blocks) (entries : List EntryTree) (count : ℕ) (plan : Planning) (run : Result ClosedOf E)
-    → count ≡ length spec.sessions → (plan.launches ≡ launches spec entries) × (plan.entries ≡ entries)
-    → IfOk run (λ c. IsOf c.state blocks count Directed) → IfOk run (λ c. is_quiet_in c.state.machine ≡ true) → IfOk run (λ c. IsDriven (order_after plan) c.state.history)
-    → IfOk run (RanAs spec blocks entries)
-ran_as spec blocks entries count plan (Err e) same of_spec of quiet driven = tt
-ran_as spec blocks entries count plan (Ok c) same of_spec of quiet driven = record {
-  plan = plan;
-  planned = record { launches = of_spec.0; own = of_spec.1 };
-  ran = record { of = subst (λ (n : ℕ). IsOf c.state blocks n Directed) same of; quiet = quiet; driven = driven };
-}

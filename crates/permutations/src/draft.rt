@@ -5,7 +5,7 @@ ghost use Rattle.sql_blocks.specs.Blocks.{blocks_of};
 ghost use Rattle.spec_parser.specs.Trees.{entry_view, spec_view};
 ghost use Rattle.spec_parser.specs.Stands.{Stands};
 ghost use Rattle.spec_files.specs.Drafts.{AreDrafts, HasRoomFor, IsDraft};
-ghost use Rattle.permutations.specs.Inner.Runs.{RanAs, RanAsEach};
+ghost use Rattle.permutations.specs.Inner.Runs.{RanAs};
 
 use crate::thread_run::{runs_of, tell_permutation};
 use chain_store::ChainStore;
@@ -45,24 +45,6 @@ fn draft_of(
     }
 }
 
-/// The closed runs of these permutations; none where there is no memory for a list of them.
-fn runs_or_none<'a, 't, G: Gate, R: Threads + Wait + Sync>(
-    rt: &R,
-    alloc: Global,
-    spec: &Spec<'_>,
-    blocks: &'a [Block<'t>],
-    taken: &[Vec<Entry>],
-    gate: &G,
-) -> Vec<Result<Closed<'a, 't, ChainStore>, ThreadFault>>
-    requires { Stands (spec_view spec.now) }
-    ensures { RanAsEach (spec_view spec.now) (blocks_of blocks.now) taken.now result.items }
-{
-    match runs_of(rt, alloc, spec, blocks, taken, gate) {
-        Ok(runs) => runs,
-        Err(_) => Vec::new(alloc),
-    }
-}
-
 /// Runs these permutations side by side, and writes their reports in memory, in the room that there is for them.
 pub fn drafts_of<G: Gate, R: Threads + Wait + Sync>(
     rt: &R,
@@ -77,7 +59,7 @@ pub fn drafts_of<G: Gate, R: Threads + Wait + Sync>(
     requires room { HasRoomFor drafts taken.items }
     ensures { AreDrafts (IsDraft (spec_view spec.now) (blocks_of blocks.now)) taken.items result }
 {
-    let mut runs = runs_or_none(rt, alloc, spec, blocks, &taken, gate).into_iter();
+    let mut runs = runs_of(rt, alloc, spec, blocks, &taken, gate).into_iter();
     for entries in taken {
         let run = runs.next();
         let draft = draft_of(alloc, spec, blocks, entries, run);

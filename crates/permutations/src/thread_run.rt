@@ -17,11 +17,11 @@ ghost use Rattle.permutations.specs.Inner.Runs.{ArePlans, RanAs, RanAsEach};
 use crate::driver::Plan;
 use chain_store::ChainStore;
 use iso_lexer::Sink;
-use session_threads::{Closed, Gate, Run, ThreadFault, run_directed, run_each};
+use session_threads::{Closed, Gate, Run, ThreadFault, run_each};
 use spec_files::{Ended, RunFault, write_permutation};
 use spec_parser::{Entry, Spec};
 use sql_blocks::Block;
-use std::alloc::{AllocError, Global};
+use std::alloc::Global;
 use std::sync::Wait;
 use std::thread::Threads;
 
@@ -46,89 +46,20 @@ fn plans_of<'s>(
     ensures follows { All (λ run. IsFollowing run.driver []) result.items }
 {
     let mut runs = Vec::new(alloc);
-    if runs.try_reserve(taken.len()).is_err() {
-        return runs;
-    }
     for entries in taken {
         let Ok(driver) = Plan::new(alloc, spec, entries) else {
             return runs;
         };
         let store = ChainStore::new(alloc);
-        runs.push(Run { store, driver }).unwrap();
+        if runs.push(Run { store, driver }).is_err() {
+            return runs;
+        }
     }
     runs
 }
 
-/// The closed runs of these permutations, which one crew runs side by side, where there is memory for all that they take
-/// before they begin.
-fn runs_together<'a, 't, G: Gate, R: Threads + Wait + Sync>(
-    rt: &R,
-    alloc: Global,
-    spec: &Spec<'_>,
-    blocks: &'a [Block<'t>],
-    taken: &[Vec<Entry>],
-    gate: &G,
-) -> Option<Vec<Result<Closed<'a, 't, ChainStore>, ThreadFault>>>
-    requires { Stands (spec_view spec.now) }
-    ensures count { IfSome result (λ runs. length runs.items ≡ length taken.now) }
-    ensures ran { IfSome result (λ runs. RanAsEach (spec_view spec.now) (blocks_of blocks.now) taken.now runs.items) }
-{
-    let sessions = spec.sessions.len() as u32;
-    let runs = plans_of(alloc, spec, taken);
-    if runs.len() != taken.len() {
-        return None;
-    }
-    match run_each(rt, alloc, blocks, sessions, runs, gate) {
-        Ok(closed) => Some(closed),
-        Err(_) => None,
-    }
-}
-
-/// The closed run of a permutation, by a crew of its own. Its launches are the permutation's: what the plan doesn't give is
-/// never launched.
-fn run_alone<'a, 't, G: Gate, R: Threads + Wait + Sync>(
-    rt: &R,
-    alloc: Global,
-    spec: &Spec<'_>,
-    blocks: &'a [Block<'t>],
-    entries: &[Entry],
-    gate: &G,
-) -> Result<Closed<'a, 't, ChainStore>, ThreadFault>
-    requires { Stands (spec_view spec.now) }
-    ensures { IfOk result (RanAs (spec_view spec.now) (blocks_of blocks.now) (map entry_view entries.now)) }
-{
-    let sessions = spec.sessions.len() as u32;
-    let Ok(plan) = Plan::new(alloc, spec, entries) else {
-        return Err(ThreadFault::Memory);
-    };
-    let store = ChainStore::new(alloc);
-    run_directed(rt, alloc, blocks, sessions, store, plan, gate)
-}
-
-/// The closed runs of these permutations, one after the other.
-fn runs_in_turn<'a, 't, G: Gate, R: Threads + Wait + Sync>(
-    rt: &R,
-    alloc: Global,
-    spec: &Spec<'_>,
-    blocks: &'a [Block<'t>],
-    taken: &[Vec<Entry>],
-    gate: &G,
-) -> Result<Vec<Result<Closed<'a, 't, ChainStore>, ThreadFault>>, AllocError>
-    requires { Stands (spec_view spec.now) }
-    ensures count { IfOk result (λ runs. length runs.items ≡ length taken.now) }
-    ensures ran { IfOk result (λ runs. RanAsEach (spec_view spec.now) (blocks_of blocks.now) taken.now runs.items) }
-{
-    let mut runs = Vec::with_capacity(alloc, taken.len())?;
-    for entries in taken {
-        let run = run_alone(rt, alloc, spec, blocks, entries, gate);
-        runs.push(run).unwrap();
-    }
-    Ok(runs)
-}
-
 /// The closed runs of these permutations, which one crew runs side by side. Their launches are the permutations': what a plan
-/// doesn't give is never launched. Where memory is refused for what they have in common, each runs by itself, so that what is
-/// refused once ends no more than one run.
+/// doesn't give is never launched. Where memory is refused there are fewer, from the first on.
 pub fn runs_of<'a, 't, G: Gate, R: Threads + Wait + Sync>(
     rt: &R,
     alloc: Global,
@@ -136,14 +67,15 @@ pub fn runs_of<'a, 't, G: Gate, R: Threads + Wait + Sync>(
     blocks: &'a [Block<'t>],
     taken: &[Vec<Entry>],
     gate: &G,
-) -> Result<Vec<Result<Closed<'a, 't, ChainStore>, ThreadFault>>, AllocError>
+) -> Vec<Result<Closed<'a, 't, ChainStore>, ThreadFault>>
     requires { Stands (spec_view spec.now) }
-    ensures count { IfOk result (λ runs. length runs.items ≡ length taken.now) }
-    ensures ran { IfOk result (λ runs. RanAsEach (spec_view spec.now) (blocks_of blocks.now) taken.now runs.items) }
+    ensures { RanAsEach (spec_view spec.now) (blocks_of blocks.now) taken.now result.items }
 {
-    match runs_together(rt, alloc, spec, blocks, taken, gate) {
-        Some(runs) => Ok(runs),
-        None => runs_in_turn(rt, alloc, spec, blocks, taken, gate),
+    let sessions = spec.sessions.len() as u32;
+    let runs = plans_of(alloc, spec, taken);
+    match run_each(rt, alloc, blocks, sessions, runs, gate) {
+        Ok(closed) => closed,
+        Err(_) => Vec::new(alloc),
     }
 }
 

@@ -74,6 +74,10 @@ fn meets(own: &AtomicU64, other: &AtomicU64) -> bool {
 }
 
 impl Gate for Handshake {
+    fn tries(&self) -> u64 {
+        1
+    }
+
     fn admits(&self, event: Event) -> bool {
         match event {
             Event::Step { session: 1 } => meets(&self.first, &self.second),
@@ -81,6 +85,8 @@ impl Gate for Handshake {
             _ => true,
         }
     }
+
+    fn answered(&self, _event: Event, _reply: &Reply<'_>) {}
 }
 
 /// Admits a session's step once that of the next session was answered, up to the last session.

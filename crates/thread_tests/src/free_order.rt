@@ -2,13 +2,16 @@
 
 use crate::asking::holds;
 use crate::gates::LOOKS;
-use crate::running::free;
-use crate::signs::session_of;
+use iso_lexer::FromStd;
+use permutations::{RunFault, free_spec};
 use session_machine::{Event, Reply};
 use session_threads::Gate;
+use std::alloc::Global;
+use std::process::Abort;
+use std::sync::Wait;
 use std::sync::atomic::{AtomicU64, Ordering};
 use std::test::Fail;
-use std::thread::yield_now;
+use std::thread::{Threads, yield_now};
 
 /// Lets so many sessions launch from the last to the first, and then step in that order too: each event behind the one before.
 #[derive(Drop)]
@@ -16,6 +19,21 @@ struct Backwards {
     sessions: u64,
     launched: AtomicU64,
     stepped: AtomicU64,
+}
+
+impl Backwards {
+    fn of(sessions: u64) -> Backwards {
+        Backwards {
+            sessions,
+            launched: AtomicU64::new(0),
+            stepped: AtomicU64::new(0),
+        }
+    }
+
+    /// How many sessions come before this one.
+    fn before(&self, session: u32) -> u64 {
+        self.sessions.saturating_sub(session as u64)
+    }
 }
 
 impl Gate for Backwards {
@@ -26,11 +44,11 @@ impl Gate for Backwards {
     fn admits(&self, event: Event) -> bool {
         yield_now();
         let launched = self.launched.load(Ordering::SeqCst);
-        let before = self.sessions.saturating_sub(session_of(event) as u64);
         match event {
-            Event::Launch { .. } => launched == before,
-            Event::Step { .. } => {
-                launched == self.sessions && self.stepped.load(Ordering::SeqCst) == before
+            Event::Launch { session, .. } => launched == self.before(session),
+            Event::Step { session } => {
+                launched == self.sessions
+                    && self.stepped.load(Ordering::SeqCst) == self.before(session)
             }
             Event::Leave { .. } => true,
         }
@@ -74,16 +92,32 @@ step a: statement 1
 
 ";
 
+/// What a run of these sessions prints under a gate that lets the last come first.
+fn told<R: Threads + Wait + Sync>(
+    rt: &R,
+    alloc: Global,
+    spec: &str,
+    sessions: u64,
+) -> Result<Vec<u8>, RunFault> {
+    let mut text = Vec::new(alloc);
+    let mut notes = Vec::new(alloc);
+    let mut input = FromStd::new(spec.as_bytes());
+    let mut out = FromStd::new(&mut text);
+    let mut noted = FromStd::new(&mut notes);
+    let gate = Backwards::of(sessions);
+    free_spec(rt, alloc, &mut input, &mut out, &mut noted, &gate)?;
+    Ok(text)
+}
+
 #[test]
 fn a_free_run_is_told_as_it_came(rt: HostRuntime) -> Result<(), Fail> {
-    let gate = Backwards {
-        sessions: 3,
-        launched: AtomicU64::new(0),
-        stepped: AtomicU64::new(0),
+    let Ok(text) = told(&rt, rt.alloc(), THREE, 3) else {
+        return Err(Fail::new("a run ended early"));
     };
-    let told = free(&rt, rt.alloc(), THREE, &gate);
-    holds(&rt, told.answer.is_ok(), "the run ends");
-    let text = told.text.as_slice();
-    holds(&rt, text == THREE_BACKWARDS.as_bytes(), "its text");
+    holds(
+        &rt,
+        text.as_slice() == THREE_BACKWARDS.as_bytes(),
+        "its text",
+    );
     Ok(())
 }

@@ -39,10 +39,7 @@ fn block<'t>(alloc: Global, text: &'t str, role: Role) -> Result<Block<'t>, Fail
     if text.len() > 1_000 {
         return Err("a long text".into());
     }
-    match parse_block(alloc, text, role) {
-        Ok(block) => Ok(block),
-        Err(_) => Err("a block with a fault".into()),
-    }
+    Ok(parse_block(alloc, text, role).map_err(|_| "a block with a fault")?)
 }
 
 /// The blocks with these texts; the first so many are the control session's.
@@ -69,7 +66,7 @@ fn fault_text(fault: ThreadFault) -> &'static str {
 }
 
 /// A run of the blocks, by at most 64 sessions.
-pub fn ended<'a, 't, G: Gate, R: Threads + Wait + Sync>(
+fn ended<'a, 't, G: Gate, R: Threads + Wait + Sync>(
     rt: &R,
     alloc: Global,
     blocks: &'a [Block<'t>],
@@ -107,10 +104,9 @@ fn is_legal(
 
 /// The number beside key 1, where that is the table's one row.
 fn number_of(engine: &EngineState<'_, '_, ListStore>) -> Result<Option<i32>, Fail> {
-    let rows = match engine.visible(0, "t") {
-        Ok(Some(rows)) => rows,
-        Ok(None) => return Ok(None),
-        Err(_) => return Err("a refusal".into()),
+    let rows = engine.visible(0, "t").map_err(|_| "a refusal")?;
+    let Some(rows) = rows else {
+        return Ok(None);
     };
     let [row] = rows.as_slice() else {
         return Ok(None);

@@ -3,15 +3,37 @@
 use crate::asking::holds;
 use crate::free_gates::Handshake;
 use crate::gates::Meeting;
-use crate::running::free;
-use permutations::RunFault;
-use session_threads::OpenGate;
+use iso_lexer::FromStd;
+use permutations::{RunFault, free_spec};
+use session_threads::{Gate, OpenGate};
 use std::alloc::Global;
 use std::process::Abort;
 use std::sync::Wait;
 use std::sync::atomic::Ordering;
 use std::test::Fail;
 use std::thread::Threads;
+
+/// What a free run wrote and noted, and its answer.
+#[derive(Drop)]
+struct Wrote {
+    text: Vec<u8>,
+    notes: Vec<u8>,
+    answer: Result<(), RunFault>,
+}
+
+fn free<G: Gate, R: Threads + Wait + Sync>(rt: &R, alloc: Global, spec: &str, gate: &G) -> Wrote {
+    let mut input = FromStd::new(spec.as_bytes());
+    let mut text = Vec::new(alloc);
+    let mut notes = Vec::new(alloc);
+    let mut out = FromStd::new(&mut text);
+    let mut told = FromStd::new(&mut notes);
+    let answer = free_spec(rt, alloc, &mut input, &mut out, &mut told, gate);
+    Wrote {
+        text,
+        notes,
+        answer,
+    }
+}
 
 /// A free run of the spec goes well, and says this.
 fn says<R: Threads + Wait + Sync + Abort>(
@@ -84,33 +106,35 @@ const FIRST: &str = "Parsed test spec with 2 sessions
 starting free run
 ";
 
-/// Files with a setup that fails, and with one that waits.
-const SETUPS: [(&str, bool); 2] = [
-    (
+#[test]
+fn setups_that_fail_or_wait_are_answered(rt: HostRuntime) -> Result<(), Fail> {
+    let fails = free(
+        &rt,
+        rt.alloc(),
         "setup { CREATE TABLE t (x int); INSERT INTO t VALUES (1); }
 session s setup { SELECT 1/0; } step a { SELECT 1; } session u step b { SELECT 1; }",
-        false,
-    ),
-    (
+        &OpenGate,
+    );
+    holds(
+        &rt,
+        matches!(fails.answer, Err(RunFault::SetupFailed { .. })),
+        "fails",
+    );
+    holds(&rt, fails.text.as_slice() == FIRST.as_bytes(), "text");
+    let waits = free(
+        &rt,
+        rt.alloc(),
         "setup { CREATE TABLE t (x int); INSERT INTO t VALUES (1); }
 session s setup { BEGIN; UPDATE t SET x = 2; } step a { SELECT 1; }
 session u setup { UPDATE t SET x = 3; } step b { SELECT 1; }",
-        true,
-    ),
-];
-
-#[test]
-fn setups_that_fail_or_wait_are_answered(rt: HostRuntime) -> Result<(), Fail> {
-    for (spec, waits) in SETUPS {
-        let ended = free(&rt, rt.alloc(), spec, &OpenGate);
-        let well = match &ended.answer {
-            Err(RunFault::SetupFailed { .. }) => !waits,
-            Err(RunFault::SetupWaits) => waits,
-            _ => false,
-        };
-        holds(&rt, well, spec);
-        holds(&rt, ended.text.as_slice() == FIRST.as_bytes(), "text");
-    }
+        &OpenGate,
+    );
+    holds(
+        &rt,
+        matches!(waits.answer, Err(RunFault::SetupWaits)),
+        "waits",
+    );
+    holds(&rt, waits.text.as_slice() == FIRST.as_bytes(), "text");
     Ok(())
 }
 

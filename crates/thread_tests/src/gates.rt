@@ -39,6 +39,14 @@ impl Meeting {
 }
 
 impl Gate for Meeting {
+    fn tries(&self) -> u64 {
+        1
+    }
+
+    fn admits(&self, _event: Event) -> bool {
+        true
+    }
+
     fn answered(&self, event: Event, _reply: &Reply<'_>) {
         if let Event::Step { .. } = event {
             self.came.fetch_add(1, Ordering::SeqCst);
@@ -66,6 +74,14 @@ impl Telling {
 }
 
 impl Gate for Telling {
+    fn tries(&self) -> u64 {
+        1
+    }
+
+    fn admits(&self, _event: Event) -> bool {
+        true
+    }
+
     fn answered(&self, event: Event, reply: &Reply<'_>) {
         let told = match session_of(event) {
             1 => &self.first,
@@ -94,4 +110,6 @@ impl Gate for Shut {
         yield_now();
         false
     }
+
+    fn answered(&self, _event: Event, _reply: &Reply<'_>) {}
 }

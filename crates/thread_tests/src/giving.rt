@@ -8,12 +8,11 @@ use std::alloc::{AllocError, Global};
 use std::sync::atomic::{AtomicU64, Ordering};
 use std::thread::yield_now;
 
-/// Orders one thing before any event, and another behind them, where it isn't refused memory there.
+/// Orders one thing before any event, and another behind them.
 #[derive(Drop)]
 pub struct Twice {
     pub first: Order,
     pub then: Order,
-    pub starved: bool,
 }
 
 impl Driver<ListStore> for Twice {
@@ -28,13 +27,37 @@ impl Driver<ListStore> for Twice {
         _alloc: Global,
         engine: &EngineState<'_, '_, ListStore>,
     ) -> Result<Order, AllocError> {
+        Ok(if engine.history().len() == 0 {
+            self.first
+        } else {
+            self.then
+        })
+    }
+
+    ghost goes_on = { λ d items more fits. fits };
+}
+
+/// Orders one thing before any event, and is refused memory behind them.
+#[derive(Drop)]
+pub struct Starved {
+    pub first: Order,
+}
+
+impl Driver<ListStore> for Starved {
+    ghost order_after = { λ d items. d.first };
+
+    ghost follows = { λ d items. Unit {0} };
+
+    fn next(
+        &mut self,
+        _alloc: Global,
+        engine: &EngineState<'_, '_, ListStore>,
+    ) -> Result<Order, AllocError> {
         if engine.history().len() == 0 {
-            return Ok(self.first);
+            Ok(self.first)
+        } else {
+            Err(AllocError)
         }
-        if self.starved {
-            return Err(AllocError);
-        }
-        Ok(self.then)
     }
 
     ghost goes_on = { λ d items more fits. fits };
@@ -65,6 +88,10 @@ impl Counting {
 }
 
 impl Gate for Counting {
+    fn tries(&self) -> u64 {
+        1
+    }
+
     fn admits(&self, _event: Event) -> bool {
         self.asked.fetch_add(1, Ordering::SeqCst);
         true

@@ -25,8 +25,6 @@ mod run_faults;
 #[cfg(test)]
 mod run_limits;
 #[cfg(test)]
-mod running;
-#[cfg(test)]
 mod seats;
 #[cfg(test)]
 mod signs;

@@ -1,12 +1,12 @@
 //! Runs that the engine or a driver ends while the other threads sleep, and what gates are asked and told.
 
 use crate::asking::holds;
-use crate::free_runs::{blocks, ended};
-use crate::giving::{Behind, Counting, Twice};
+use crate::free_runs::blocks;
+use crate::giving::{Behind, Counting, Starved, Twice};
 use crate::signs::session_of;
 use row_versions::ListStore;
 use session_machine::{EngineFault, Order};
-use session_threads::{Closed, FreePlan, Gate, OpenGate, ThreadFault, run_directed};
+use session_threads::{Closed, FreePlan, Gate, OpenGate, ThreadFault, run_directed, run_free};
 use sql_parser::Block;
 use std::alloc::Global;
 use std::sync::Wait;
@@ -24,68 +24,66 @@ pub const TEXTS: [&str; 4] = [
 /// A block that isn't there.
 pub const NO_BLOCK: u32 = 99;
 
-/// The query in session 1, and then what the test says.
-pub fn query_then(then: Order) -> Twice {
-    Twice {
-        first: Order::Launch {
-            session: 1,
-            block: 3,
-        },
-        then,
-        starved: false,
-    }
-}
-
-/// The fault in which a directed run of two sessions ends.
+/// The fault in which a directed run of two sessions ends, in which this is ordered first and that then.
 pub fn directed<G: Gate, R: Threads + Wait + Sync>(
     rt: &R,
     alloc: Global,
     blocks: &[Block<'_>],
-    driver: Twice,
+    first: Order,
+    then: Order,
     gate: &G,
 ) -> Option<ThreadFault> {
     let store = ListStore::new(alloc);
-    run_directed(rt, alloc, blocks, 2, store, driver, gate).err()
+    run_directed(rt, alloc, blocks, 2, store, Twice { first, then }, gate).err()
 }
 
-/// What is ordered behind the query, the fault in which the run ends then, how often the gate is asked and told, and a name.
-const ENDS: [(Order, Option<ThreadFault>, u64, u64, &str); 3] = [
-    (
-        Order::Launch {
-            session: 2,
-            block: NO_BLOCK,
-        },
-        Some(ThreadFault::Engine(EngineFault::BlockNotAllowed)),
-        3,
-        2,
-        "a block that isn't there: asked for, and not told",
-    ),
-    (
-        Order::Leave { session: 3 },
-        Some(ThreadFault::Engine(EngineFault::NoSession)),
-        2,
-        2,
-        "a session that isn't there: asked for what was done",
-    ),
-    (
-        Order::Stop,
-        None,
-        2,
-        2,
-        "a launch and a step are asked for and told once",
-    ),
-];
+/// The fault in which a directed run ends whose driver is refused memory behind its first order.
+fn starved<R: Threads + Wait + Sync>(
+    rt: &R,
+    alloc: Global,
+    blocks: &[Block<'_>],
+    first: Order,
+) -> Option<ThreadFault> {
+    let store = ListStore::new(alloc);
+    run_directed(rt, alloc, blocks, 2, store, Starved { first }, &OpenGate).err()
+}
+
+pub const QUERY: Order = Order::Launch {
+    session: 1,
+    block: 3,
+};
 
 #[test]
 fn a_directed_run_ends_where_the_engine_refuses(rt: HostRuntime) -> Result<(), Fail> {
     let alloc = rt.alloc();
     let blocks = blocks(alloc, 4, &TEXTS)?;
-    for (then, fault, asked, told, of) in ENDS {
-        let gate = Counting::new();
-        let ended = directed(&rt, alloc, &blocks, query_then(then), &gate);
-        holds(&rt, ended == fault, of);
-        holds(&rt, gate.asked() == asked && gate.told() == told, of);
-    }
+    let gate = Counting::new();
+    let no_block = Order::Launch {
+        session: 2,
+        block: NO_BLOCK,
+    };
+    let fault = directed(&rt, alloc, &blocks, QUERY, no_block, &gate);
+    let expected = ThreadFault::Engine(EngineFault::BlockNotAllowed);
+    holds(&rt, fault == Some(expected), "a block that isn't there");
+    holds(
+        &rt,
+        gate.asked() == 3,
+        "the gate is asked for the refused event",
+    );
+    holds(&rt, gate.told() == 2, "and isn't told of it");
+    Ok(())
+}
+
+#[test]
+fn a_directed_run_ends_where_an_order_is_nobodys(rt: HostRuntime) -> Result<(), Fail> {
+    let alloc = rt.alloc();
+    let blocks = blocks(alloc, 4, &TEXTS)?;
+    let gate = Counting::new();
+    let nobodys = Order::Leave { session: 3 };
+    let fault = directed(&rt, alloc, &blocks, QUERY, nobodys, &gate);
+    let expected = ThreadFault::Engine(EngineFault::NoSession);
+    holds(&rt, fault == Some(expected), "a session that isn't there");
+    holds(&rt, gate.asked() == 2, "asked for what was done");
     Ok(())
 }
 
@@ -93,10 +91,20 @@ fn a_directed_run_ends_where_the_engine_refuses(rt: HostRuntime) -> Result<(), F
 fn a_directed_run_ends_where_its_driver_is_refused_memory(rt: HostRuntime) -> Result<(), Fail> {
     let alloc = rt.alloc();
     let blocks = blocks(alloc, 4, &TEXTS)?;
-    let mut driver = query_then(Order::Stop);
-    driver.starved = true;
-    let fault = directed(&rt, alloc, &blocks, driver, &OpenGate);
+    let fault = starved(&rt, alloc, &blocks, QUERY);
     holds(&rt, fault == Some(ThreadFault::Memory), "memory");
+    Ok(())
+}
+
+#[test]
+fn a_directed_run_asks_and_tells_each_event_once(rt: HostRuntime) -> Result<(), Fail> {
+    let alloc = rt.alloc();
+    let blocks = blocks(alloc, 4, &TEXTS)?;
+    let gate = Counting::new();
+    let fault = directed(&rt, alloc, &blocks, QUERY, Order::Stop, &gate);
+    holds(&rt, fault.is_none(), "the run ends well");
+    holds(&rt, gate.asked() == 2, "a launch and a step are asked for");
+    holds(&rt, gate.told() == 2, "and told");
     Ok(())
 }
 
@@ -115,13 +123,26 @@ pub fn plan_of(alloc: Global, first: &[u32], second: &[u32]) -> Result<FreePlan,
     })
 }
 
+pub fn free<'a, 't, G: Gate, R: Threads + Wait + Sync>(
+    rt: &R,
+    alloc: Global,
+    blocks: &'a [Block<'t>],
+    plan: &FreePlan,
+    gate: &G,
+) -> Result<Closed<'a, 't, ListStore>, ThreadFault> {
+    if plan.scripts.len() > 64 {
+        return Err(ThreadFault::Engine(EngineFault::NoSession));
+    }
+    run_free(rt, alloc, blocks, plan, ListStore::new(alloc), gate)
+}
+
 #[test]
 fn a_free_run_ends_where_the_engine_refuses(rt: HostRuntime) -> Result<(), Fail> {
     let alloc = rt.alloc();
     let blocks = blocks(alloc, 4, &TEXTS)?;
     let plan = plan_of(alloc, &[1, NO_BLOCK], &[2])?;
     let gate = Behind::new();
-    let fault = ended(&rt, alloc, &blocks, &plan, &gate).err();
+    let fault = free(&rt, alloc, &blocks, &plan, &gate).err();
     let expected = ThreadFault::Engine(EngineFault::BlockNotAllowed);
     holds(&rt, fault == Some(expected), "a block that isn't there");
     holds(&rt, gate.told() == 5, "told of what was done");
@@ -145,13 +166,11 @@ fn asks_and_tells<R: Threads + Wait + Sync>(
     alloc: Global,
     blocks: &[Block<'_>],
     plan: &FreePlan,
-) -> bool {
+) -> Result<bool, Fail> {
     let gate = Counting::new();
-    let Ok(closed) = ended(rt, alloc, blocks, plan, &gate) else {
-        return false;
-    };
+    let closed = free(rt, alloc, blocks, plan, &gate).map_err(|_| "no closed run")?;
     let events = own_events(&closed);
-    events == 8 && gate.asked() == events && gate.told() == events
+    Ok(events == 8 && gate.asked() == events && gate.told() == events)
 }
 
 #[test]
@@ -159,7 +178,10 @@ fn a_free_run_asks_and_tells_each_event_of_a_session_once(rt: HostRuntime) -> Re
     let alloc = rt.alloc();
     let blocks = blocks(alloc, 4, &TEXTS)?;
     let plan = plan_of(alloc, &[3, 3], &[3])?;
-    let well = asks_and_tells(&rt, alloc, &blocks, &plan);
-    holds(&rt, well, "asked and told");
+    holds(
+        &rt,
+        asks_and_tells(&rt, alloc, &blocks, &plan)?,
+        "asked and told",
+    );
     Ok(())
 }

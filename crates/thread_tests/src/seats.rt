@@ -3,22 +3,26 @@ ghost use Rattle.std.specs.Prelude.{◌≡◌};
 ghost use Rattle.session_machine.specs.Machine.{session_of};
 
 use crate::asking::holds;
-use crate::free_runs::blocks;
 use row_versions::ListStore;
 use session_core::EngineState;
 use session_machine::{Event, Mode};
 use session_threads::{Seat, ThreadFault, act, close};
-use sql_parser::Block;
+use sql_parser::{Block, Role, parse_block};
 use std::alloc::{AllocError, Global};
 use std::test::Fail;
 
-/// The blocks of the run.
-const TEXTS: [&str; 4] = [
-    "CREATE TABLE t (x int); INSERT INTO t VALUES (1);",
-    "BEGIN ISOLATION LEVEL REPEATABLE READ; SELECT * FROM t;",
-    "INSERT INTO t VALUES (2);",
-    "SELECT * FROM t;",
-];
+fn blocks<'t>(alloc: Global) -> Result<Vec<Block<'t>>, Fail> {
+    let mut blocks = Vec::new(alloc);
+    for text in [
+        "CREATE TABLE t (x int); INSERT INTO t VALUES (1);",
+        "BEGIN ISOLATION LEVEL REPEATABLE READ; SELECT * FROM t;",
+        "INSERT INTO t VALUES (2);",
+        "SELECT * FROM t;",
+    ] {
+        blocks.push(parse_block(alloc, text, Role::Main).map_err(|_| "a block")?)?;
+    }
+    Ok(blocks)
+}
 
 /// What a session is given.
 #[derive(Clone, Copy)]
@@ -63,10 +67,7 @@ fn do_one<'t>(
     given: Given,
 ) -> Result<(), Fail> {
     let event = event_of(seat.session(), given);
-    match act(engine, seat, event) {
-        Ok(()) => Ok(()),
-        Err(_) => Err("an event that is refused".into()),
-    }
+    Ok(act(engine, seat, event).map_err(|_| "an event")?)
 }
 
 /// The seats behind that history.
@@ -121,33 +122,19 @@ fn changed<'t>(
     Ok(changed)
 }
 
-/// The seats behind that history, changed.
-fn changed_after<'t>(
-    alloc: Global,
-    engine: &mut EngineState<'_, 't, ListStore>,
-    hands: Hands,
-) -> Result<Vec<Seat<'t>>, Fail> {
-    let seats = seats_of(alloc, engine)?;
-    Ok(changed(alloc, seats, hands)?)
-}
-
 /// What `close` finds wrong with the seats after a run of two sessions.
 fn found(alloc: Global, blocks: &[Block<'_>], hands: Hands) -> Result<Option<ThreadFault>, Fail> {
     let store = ListStore::new(alloc);
     let mut engine = EngineState::new(alloc, blocks, 2, Mode::Directed, store)?;
-    match changed_after(alloc, &mut engine, hands) {
-        Ok(seats) => Ok(close(engine, seats).err()),
-        Err(fail) => {
-            engine.end();
-            Err(fail)
-        }
-    }
+    let seats = seats_of(alloc, &mut engine)?;
+    let changed = changed(alloc, seats, hands)?;
+    Ok(close(engine, changed).err())
 }
 
 #[test]
 fn close_compares_seats(rt: HostRuntime) -> Result<(), Fail> {
     let alloc = rt.alloc();
-    let blocks = blocks(alloc, 4, &TEXTS)?;
+    let blocks = blocks(alloc)?;
     for (hands, session, of) in [
         (Hands::All, None, "all seats"),
         (Hands::WithoutTwo, Some(2), "without seat 2"),
@@ -155,10 +142,7 @@ fn close_compares_seats(rt: HostRuntime) -> Result<(), Fail> {
         (Hands::NewZero, Some(0), "a new seat 0"),
         (Hands::TwoMore, Some(7), "seats 9 and 7"),
     ] {
-        let expected = match session {
-            Some(session) => Some(ThreadFault::SeatMismatch { session }),
-            None => None,
-        };
+        let expected = session.map(|session| ThreadFault::SeatMismatch { session });
         holds(&rt, found(alloc, &blocks, hands)? == expected, of);
     }
     Ok(())

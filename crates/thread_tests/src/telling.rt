@@ -4,14 +4,13 @@ ghost use Rattle.std.specs.Prelude.{[]};
 ghost use Rattle.spec_files.specs.Plans.{IsFollowing};
 
 use crate::asking::holds;
-use crate::free_runs::blocks;
 use crate::gates::Telling;
 use crate::signs::sign_of_all;
 use permutations::Plan;
 use row_versions::ListStore;
-use session_threads::{Seat, run_directed};
+use session_threads::{Seat, ThreadFault, run_directed};
 use spec_parser::{Spec, parse_spec};
-use sql_parser::Block;
+use sql_parser::{Block, Role, parse_block};
 use std::alloc::Global;
 use std::sync::Wait;
 use std::sync::atomic::Ordering;
@@ -23,13 +22,20 @@ const TWO: &str = "session s1 step a { SELECT 11; SELECT 12; } step b { SELECT 1
 session s2 step c { SELECT 21; } step d { SELECT 22; SELECT 23; }
 permutation c a d b";
 
-/// The blocks of their steps.
-const STEPS: [&str; 4] = [
-    " SELECT 11; SELECT 12; ",
-    " SELECT 13; ",
-    " SELECT 21; ",
-    " SELECT 22; SELECT 23; ",
-];
+/// The blocks of a spec of sessions that have steps alone.
+fn step_blocks<'t>(alloc: Global, spec: &Spec<'t>) -> Result<Vec<Block<'t>>, Fail> {
+    let mut blocks = Vec::new(alloc);
+    for session in &spec.sessions {
+        for step in &session.steps {
+            if step.part.sql.len() > 1_000 {
+                return Err(Fail::new("a long block"));
+            }
+            let block = parse_block(alloc, step.part.sql, Role::Session);
+            blocks.push(block.map_err(|_| "a block")?)?;
+        }
+    }
+    Ok(blocks)
+}
 
 /// Whether the gate was told what the seats of sessions 1 and 2 hold.
 pub fn was_told(gate: &Telling, seats: &[Seat<'_>]) -> bool {
@@ -40,30 +46,27 @@ pub fn was_told(gate: &Telling, seats: &[Seat<'_>]) -> bool {
     told == [sign_of_all(&first.items), sign_of_all(&second.items)] && told[0] != told[1]
 }
 
-/// Whether the gate of a run by this plan is told what the seats hold.
 fn tells<R: Threads + Wait + Sync>(
     rt: &R,
     alloc: Global,
     blocks: &[Block<'_>],
     plan: Plan<'_>,
-) -> bool
+) -> Result<bool, ThreadFault>
     requires follows { IsFollowing plan [] }
 {
     let gate = Telling::new();
     let store = ListStore::new(alloc);
-    match run_directed(rt, alloc, blocks, 2, store, plan, &gate) {
-        Ok(closed) => was_told(&gate, closed.seats()),
-        Err(_) => false,
-    }
+    let closed = run_directed(rt, alloc, blocks, 2, store, plan, &gate)?;
+    Ok(was_told(&gate, closed.seats()))
 }
 
 /// Whether the gate of a run of the first permutation line is told what the seats hold.
 fn tells_the_seats<R: Threads + Wait + Sync>(
     rt: &R,
     alloc: Global,
-    blocks: &[Block<'_>],
     spec: &Spec<'_>,
 ) -> Result<bool, Fail> {
+    let blocks = step_blocks(alloc, spec)?;
     let Some(entries) = spec.perms.first() else {
         return Ok(false);
     };
@@ -71,16 +74,13 @@ fn tells_the_seats<R: Threads + Wait + Sync>(
         return Ok(false);
     }
     let plan = Plan::new(alloc, spec, entries)?;
-    Ok(tells(rt, alloc, blocks, plan))
+    Ok(tells(rt, alloc, &blocks, plan).map_err(|_| "no closed run")?)
 }
 
 #[test]
 fn workers_tell_what_their_seats_hold(rt: HostRuntime) -> Result<(), Fail> {
-    let blocks = blocks(rt.alloc(), 0, &STEPS)?;
-    let Ok(spec) = parse_spec(rt.alloc(), TWO) else {
-        return Err("a spec with a fault".into());
-    };
-    let tells = tells_the_seats(&rt, rt.alloc(), &blocks, &spec)?;
+    let spec = parse_spec(rt.alloc(), TWO).map_err(|_| "a spec")?;
+    let tells = tells_the_seats(&rt, rt.alloc(), &spec)?;
     holds(&rt, tells, "what was told is what the seats hold");
     Ok(())
 }

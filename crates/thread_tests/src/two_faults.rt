@@ -1,12 +1,12 @@
 //! Runs in which two faults are met: the first is told.
 
 use crate::asking::holds;
-use crate::free_runs::{blocks, ended};
+use crate::free_runs::blocks;
 use crate::gates::comes;
 use crate::giving::YIELDS;
-use crate::refused::{NO_BLOCK, TEXTS, directed, plan_of, query_then};
+use crate::refused::{NO_BLOCK, QUERY, TEXTS, directed, free, plan_of};
 use crate::signs::session_of;
-use session_machine::{EngineFault, Event, Order};
+use session_machine::{EngineFault, Event, Order, Reply};
 use session_threads::{FreePlan, Gate, ThreadFault};
 use sql_parser::Block;
 use std::alloc::Global;
@@ -23,6 +23,10 @@ struct Late {
 }
 
 impl Gate for Late {
+    fn tries(&self) -> u64 {
+        1
+    }
+
     fn admits(&self, event: Event) -> bool {
         match session_of(event) {
             1 => {
@@ -40,6 +44,8 @@ impl Gate for Late {
             }
         }
     }
+
+    fn answered(&self, _event: Event, _reply: &Reply<'_>) {}
 }
 
 /// Whether a free run ends in what the engine has against session 1's block, where the gate refuses session 2 later.
@@ -53,7 +59,7 @@ fn tells_the_engines<R: Threads + Wait + Sync>(
         first: AtomicU64::new(0),
         second: AtomicU64::new(0),
     };
-    let fault = ended(rt, alloc, blocks, plan, &gate).err();
+    let fault = free(rt, alloc, blocks, plan, &gate).err();
     fault == Some(ThreadFault::Engine(EngineFault::BlockNotAllowed))
 }
 
@@ -80,16 +86,22 @@ fn of_two_faults_in_threads_the_first_is_told(rt: HostRuntime) -> Result<(), Fai
 struct NoSteps;
 
 impl Gate for NoSteps {
+    fn tries(&self) -> u64 {
+        1
+    }
+
     fn admits(&self, event: Event) -> bool {
         !matches!(event, Event::Step { .. })
     }
+
+    fn answered(&self, _event: Event, _reply: &Reply<'_>) {}
 }
 
 #[test]
 fn what_a_run_leaves_undone_is_no_fault_behind_the_gates(rt: HostRuntime) -> Result<(), Fail> {
     let alloc = rt.alloc();
     let blocks = blocks(alloc, 4, &TEXTS)?;
-    let fault = directed(&rt, alloc, &blocks, query_then(Order::Stop), &NoSteps);
+    let fault = directed(&rt, alloc, &blocks, QUERY, Order::Stop, &NoSteps);
     holds(&rt, fault == Some(ThreadFault::Gate), "the gate's fault");
     Ok(())
 }

@@ -24,10 +24,7 @@ const TEXTS: [&str; 6] = [
 const GIVEN: [(u32, u32, usize); 5] = [(0, 0, 2), (1, 1, 1), (1, 2, 1), (2, 4, 1), (1, 3, 1)];
 
 fn perform(engine: &mut EngineState<'_, '_, ListStore>, event: Event) -> Result<(), Fail> {
-    match engine.perform(event) {
-        Ok(()) => Ok(()),
-        Err(_) => Err("a refused event".into()),
-    }
+    Ok(engine.perform(event).map_err(|_| "a refused event")?)
 }
 
 fn give(
@@ -50,41 +47,29 @@ fn is_int(row: &Row, wanted: i32) -> bool {
     }
 }
 
-/// Has the sessions do all that, session 2 go on and look.
-fn give_all(engine: &mut EngineState<'_, '_, ListStore>) -> Result<(), Fail> {
-    for (session, block, steps) in GIVEN {
-        give(engine, session, block, steps)?;
-    }
-    perform(engine, Event::Step { session: 2 })?;
-    give(engine, 2, 5, 1)
-}
-
-/// Whether session 2 sees 10 and 11.
-fn sees_both(engine: &EngineState<'_, '_, ListStore>) -> bool {
-    let Ok(Some(rows)) = engine.visible(2, "website") else {
-        return false;
-    };
-    match rows.as_slice() {
-        [first, second] => is_int(first, 10) && is_int(second, 11),
-        _ => false,
-    }
-}
-
 /// Whether session 2 sees 10 and 11 behind its SELECT.
-fn both_stay(alloc: Global, blocks: &[Block<'_>]) -> Result<bool, Fail> {
+fn sees_both(alloc: Global, blocks: &[Block<'_>]) -> Result<bool, Fail> {
     let store = ListStore::new(alloc);
     let mut engine = EngineState::new(alloc, blocks, 2, Mode::Directed, store)?;
-    let given = give_all(&mut engine);
-    let both = sees_both(&engine);
-    engine.end();
-    given?;
-    Ok(both)
+    for (session, block, steps) in GIVEN {
+        give(&mut engine, session, block, steps)?;
+    }
+    perform(&mut engine, Event::Step { session: 2 })?;
+    give(&mut engine, 2, 5, 1)?;
+    let seen = engine.visible(2, "website").map_err(|_| "a refusal")?;
+    Ok(match seen {
+        Some(rows) => match rows.as_slice() {
+            [first, second] => is_int(first, 10) && is_int(second, 11),
+            _ => false,
+        },
+        None => false,
+    })
 }
 
 #[test]
 fn a_delete_that_waited_leaves_both_rows(rt: HostRuntime) -> Result<(), Fail> {
     let alloc = rt.alloc();
     let blocks = blocks(alloc, 6, &TEXTS)?;
-    holds(&rt, both_stay(alloc, &blocks)?, "10 and 11");
+    holds(&rt, sees_both(alloc, &blocks)?, "10 and 11");
     Ok(())
 }

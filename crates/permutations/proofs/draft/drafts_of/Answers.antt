@@ -12,9 +12,9 @@ loop-entries-init g c =
     let blocks = blocks_of c.args.blocks.now in
     let left : c.into_iter-entries-iterator.result.rest.items ≡ c.args.taken.items = search rules in
     let lent : c.into_iter-entries-iterator.result.rest.items ≡ c.deref.result.now = search rules in
-    let runs : c.into_iter-runs.result.rest.items ≡ c.runs_or_none.result.items = search rules in
+    let runs : c.into_iter-runs.result.rest.items ≡ c.runs_of.result.items = search rules in
     record {
-      ran = ran_of spec blocks c.deref.result.now c.into_iter-entries-iterator.result.rest.items c.runs_or_none.result.items c.into_iter-runs.result.rest.items lent runs c.runs_or_none.ensures;
+      ran = ran_of spec blocks c.deref.result.now c.into_iter-entries-iterator.result.rest.items c.runs_of.result.items c.into_iter-runs.result.rest.items lent runs c.runs_of.ensures;
       written = written_none (IsDraft spec blocks) c.args.taken.items c.into_iter-entries-iterator.result.rest.items c.args.drafts.items left c.requires.room.empty;
       room = search (rules, arith);
     }

@@ -16,6 +16,12 @@ use Rattle.permutations.proofs.thread_run.plans_of.Goals as goal
 pub returns-in_default-clause-plans : goal.returns-in_default-clause-plans
 returns-in_default-clause-plans c = planned_of (spec_view c.args.spec.now) c.loop-entries.entries-index c.args.taken.now _ c.loop-entries.invariant.plans
 
+pub returns-then-is_err-clause-plans : goal.returns-then-is_err-clause-plans
+returns-then-is_err-clause-plans c =
+    let same : c.push.new.self.items ≡ c.loop-entries.runs.items = search rules in
+    subst (λ runs. ArePlans (spec_view c.args.spec.now) c.args.taken.now (map (λ run. run.driver) runs)) (sym same)
+    (planned_of (spec_view c.args.spec.now) c.loop-entries.entries-index c.args.taken.now _ c.loop-entries.invariant.plans)
+
 pub loop-entries-preserved : goal.loop-entries-preserved
 loop-entries-preserved c =
     let n = c.loop-entries.entries-index in
@@ -34,8 +40,6 @@ loop-entries-preserved c =
     } in
     record {
       count = ap length pushed ∙ length_push so_far one ∙ ap (λ k. k + 1) before.count;
-      long = search (rules, arith);
-      room = search (rules, arith);
       plans = planned_on (λ (run : Run ChainStore Plan). run.driver) (spec_view c.args.spec.now) n c.args.taken.now c.entries-item.result so_far now one before.count within it long before.plans of pushed;
       empty = all_more so_far now one (λ run. run.store ≡ empty_content) before.empty (search rules) pushed;
       follows = all_more so_far now one (λ run. IsFollowing run.driver []) before.follows (c.in-Ok.ensures.follows []) pushed;
