@@ -18,7 +18,7 @@ pub struct Desk<'s, S> {
     pub seats: &'s mut [S],
 }
 
-/// Keeps a fault in a run, which ends it.
+/// Ends a run in a fault, unless it is over.
 pub fn give_up<E: Engine, O: Orderings, D: Drives<E>, R: Wait>(
     rt: &R,
     run: &Mutex<Shared<E, O, D>>,
@@ -26,7 +26,10 @@ pub fn give_up<E: Engine, O: Orderings, D: Drives<E>, R: Wait>(
     place: usize,
     fault: ThreadFault,
 ) {
-    run.lock(rt).note(fault);
+    let mut shared = run.lock(rt);
+    if !shared.over() {
+        shared.note(fault);
+    }
     board.end(place);
 }
 

@@ -1,27 +1,64 @@
 //! Runs that a crew serves side by side, in each of which a driver says what is given to whom.
-ghost use Rattle.std.specs.Prelude.{◌≡◌, ◌≤◌, ◌⊎◌, ◌&&◌, [], true, All, None, Some, length, IfOk, IfErr, IfSome, if◌then◌else◌};
+ghost use Rattle.std.specs.Prelude.{◌≡◌, ◌≤◌, ◌&&◌, [], true, All, None, Some, length, IfOk, IfSome, if◌then◌else◌};
 ghost use Rattle.iso_lexer.specs.declared.limits.TheConstants.{MOST_SESSIONS};
 ghost use Rattle.session_machine.specs.Engine.{is_quiet_in};
 ghost use Rattle.session_seats.specs.Orders.{IsDriven};
+ghost use Rattle.session_crews.specs.Inner.Room.{IsRoomFor};
 
+use crate::columns::{columns, last_seats, turn_round};
 use crate::crew::{Desk, give_up, work};
 use crate::driven::Drives;
+use crate::joined::Joined;
 use crate::shared::{Hand, Opened, Shared};
 use session_machine::{Engine, EngineFault};
-use session_seats::{Board, Gate, Orderings, SeatAt, ThreadFault, bit_of, start_thread};
-use std::alloc::Global;
+use session_seats::{
+    Board, Gate, NotStarted, Orderings, SeatAt, ThreadFault, bit_of, start_thread,
+};
+use std::alloc::{AllocError, Global};
 use std::sync::{Mutex, Wait};
 use std::thread;
 use std::thread::{JoinHandle, Scope, Threads};
 
-/// A run whose threads are joined: its place, the engine that stood behind the lock, the fault that was met before the joins,
-/// if one was, and what was seen after them against the run's end.
+/// A run whose threads are joined, and its place.
 #[derive(Drop)]
-pub struct Ended<E: Engine> {
+pub struct Ended<E: Engine, S> {
     pub place: usize,
-    pub engine: E,
-    pub met: Option<ThreadFault>,
-    pub late: Option<ThreadFault>,
+    pub run: Joined<E, S>,
+}
+
+/// Starts a thread. Each start that is refused ends one run, the first in which none was refused before, and then it is tried
+/// again for the others. So many runs were refused one before; says in how many one is now.
+fn start_one<
+    's,
+    'e: 's,
+    E: Engine,
+    O: Orderings,
+    D: Drives<E>,
+    R: Wait,
+    F: FnOnce() -> () + Send + Drop + 's,
+>(
+    scope: &'s Scope<'s, &'e ()>,
+    rt: &R,
+    runs: &[Mutex<Shared<E, O, D>>],
+    board: &Board,
+    crew: &mut Vec<JoinHandle<()>>,
+    before: usize,
+    work: F,
+) -> usize
+    requires pre { (f : _) → F.pre f }
+{
+    let mut work = work;
+    for place in before..runs.len() {
+        let Err(refused) = start_thread(scope, crew, work) else {
+            return place;
+        };
+        let NotStarted { fault, work: again } = refused;
+        if let Some(run) = runs.get(place) {
+            give_up(rt, run, board, place, fault);
+        }
+        work = again;
+    }
+    runs.len()
 }
 
 /// Starts a thread for each of these sessions.
@@ -42,32 +79,17 @@ fn start<
     gate: &'s G,
     columns: &'s mut [Vec<S>],
     crew: &mut Vec<JoinHandle<()>>,
-) -> Result<(), ThreadFault>
-    ensures { IfErr result (λ fault. (fault ≡ ThreadFault.Memory) ⊎ (fault ≡ ThreadFault.ThreadRefused)) }
-{
+) {
     let mut session = 0u32;
+    let mut refused = 0usize;
     for column in columns.iter_mut() {
         session = session.wrapping_add(1);
         let desk = Desk {
             session,
             seats: &mut **column,
         };
-        start_thread(scope, crew, move || work(rt, runs, board, gate, desk))?;
-    }
-    Ok(())
-}
-
-/// Ends all runs in a fault.
-fn give_all_up<E: Engine, O: Orderings, D: Drives<E>, R: Wait>(
-    rt: &R,
-    runs: &[Mutex<Shared<E, O, D>>],
-    board: &Board,
-    fault: ThreadFault,
-) {
-    let mut place = 0usize;
-    for run in runs {
-        give_up(rt, run, board, place, fault);
-        place = place.wrapping_add(1);
+        let work = move || work(rt, runs, board, gate, desk);
+        refused = start_one(scope, rt, runs, board, crew, refused, work);
     }
 }
 
@@ -93,9 +115,7 @@ fn serve_in<
 ) {
     let mut crew = Vec::new(alloc);
     if let Some((control, others)) = columns.split_first_mut() {
-        if let Err(fault) = start(scope, rt, runs, board, gate, others, &mut crew) {
-            give_all_up(rt, runs, board, fault);
-        }
+        start(scope, rt, runs, board, gate, others, &mut crew);
         let desk = Desk {
             session: 0,
             seats: &mut **control,
@@ -130,15 +150,20 @@ fn serve<
     columns
 }
 
-/// What is left of what stood behind the lock. A run that the driver didn't stop, or in which something still goes on, hasn't
-/// come to its end.
-fn ended_of<E: Engine, O: Orderings, D: Drives<E> + Drop>(shared: Shared<E, O, D>) -> Ended<E>
-    ensures same { (result.place ≡ shared.place) × (E.engine result.engine ≡ shared.engine) }
-    ensures met { result.met ≡ shared.fault }
-    ensures driven { result.late ≡ None → IsDriven (O.orders result.place) (E.engine result.engine).history }
-    ensures quiet { result.late ≡ None → is_quiet_in (E.engine result.engine).machine ≡ true }
-    ensures told { IfSome result.late (λ fault. fault ≡ ThreadFault.Engine EngineFault.NotYourTurn) }
-    ensures late { result.late ≡ (if shared.stop && is_quiet_in shared.engine.machine then None else Some (ThreadFault.Engine EngineFault.NotYourTurn)) }
+/// What is left of what stood behind the lock, with the seats, where there was memory for their list. A run that the driver
+/// didn't stop, or in which something still goes on, hasn't come to its end.
+fn ended_of<E: Engine, S: Drop, O: Orderings, D: Drives<E> + Drop>(
+    alloc: Global,
+    shared: Shared<E, O, D>,
+    seats: Result<Vec<S>, AllocError>,
+) -> Ended<E, S>
+    ensures same { (result.place ≡ shared.place) × (E.engine result.run.engine ≡ shared.engine) }
+    ensures met { IfSome shared.fault (λ fault. result.run.met ≡ Some fault) }
+    ensures seats { shared.fault ≡ None → IfSome result.run.met (λ fault. fault ≡ ThreadFault.Memory) }
+    ensures driven { result.run.late ≡ None → IsDriven (O.orders result.place) (E.engine result.run.engine).history }
+    ensures quiet { result.run.late ≡ None → is_quiet_in (E.engine result.run.engine).machine ≡ true }
+    ensures told { IfSome result.run.late (λ fault. fault ≡ ThreadFault.Engine EngineFault.NotYourTurn) }
+    ensures late { result.run.late ≡ (if shared.stop && is_quiet_in shared.engine.machine then None else Some (ThreadFault.Engine EngineFault.NotYourTurn)) }
 {
     let (place, engine, stop, fault) = shared.into_parts();
     let late = if stop && engine.quiet() {
@@ -146,12 +171,17 @@ fn ended_of<E: Engine, O: Orderings, D: Drives<E> + Drop>(shared: Shared<E, O, D
     } else {
         Some(ThreadFault::Engine(EngineFault::NotYourTurn))
     };
-    Ended {
-        place,
+    let (seats, refused) = match seats {
+        Ok(seats) => (seats, None),
+        Err(_) => (Vec::new(alloc), Some(ThreadFault::Memory)),
+    };
+    let run = Joined {
         engine,
-        met: fault,
+        seats,
+        met: fault.or(refused),
         late,
-    }
+    };
+    Ended { place, run }
 }
 
 /// Puts a run behind a lock of its own, and on the desk of who looks at it first.
@@ -174,57 +204,121 @@ fn begin<E: Engine, O: Orderings, D: Drives<E>>(
     Mutex::new(shared)
 }
 
-/// Puts each run behind a lock of its own.
+/// Puts each run behind a lock of its own, in the room that was made for them.
 fn begin_each<E: Engine, O: Orderings, D: Drives<E> + Drop>(
     alloc: Global,
     board: &Board,
     opened: Vec<Opened<E, D>>,
-) -> Result<Vec<Mutex<Shared<E, O, D>>>, ThreadFault>
+    mut runs: Vec<Mutex<Shared<E, O, D>>>,
+) -> Vec<Mutex<Shared<E, O, D>>>
     requires new { All (λ run. (E.engine run.engine).history ≡ []) opened.items }
     requires orders { All (λ run. D.order_after run.driver ≡ O.orders run.place) opened.items }
     requires follows { All (λ run. D.follows run.driver []) opened.items }
-    ensures count { IfOk result (λ runs. length runs.items ≡ length opened.items) }
-    ensures err { IfErr result (λ fault. fault ≡ ThreadFault.Memory) }
+    requires room { IsRoomFor (length opened.items) runs }
+    ensures { length result.items ≡ length opened.items }
 {
-    let mut runs = Vec::new(alloc);
-    if runs.try_reserve(opened.len()).is_err() {
-        return Err(ThreadFault::Memory);
-    }
     for run in opened {
         let begun = begin(alloc, board, runs.len(), run);
-        if runs.push(begun).is_err() {
-            return Err(ThreadFault::Memory);
-        }
+        runs.push(begun).unwrap();
     }
-    Ok(runs)
+    runs
 }
 
-/// What is left of each run, in the room that was made for it.
-fn ended_of_each<E: Engine, O: Orderings, D: Drives<E> + Drop>(
+/// What is left of each run, with the last seats of each session for the first of them, in the room that was made for it.
+fn ended_of_each<E: Engine, S: Drop, O: Orderings, D: Drives<E> + Drop>(
+    alloc: Global,
     runs: Vec<Mutex<Shared<E, O, D>>>,
-    mut ended: Vec<Ended<E>>,
-) -> Result<Vec<Ended<E>>, ThreadFault>
-    requires empty { ended.items ≡ [] }
-    ensures count { IfOk result (λ ended. length ended.items ≡ length runs.items) }
-    ensures quiet { IfOk result (λ ended. All (λ run. run.late ≡ None → is_quiet_in (E.engine run.engine).machine ≡ true) ended.items) }
-    ensures driven { IfOk result (λ ended. All (λ run. run.late ≡ None → IsDriven (O.orders run.place) (E.engine run.engine).history) ended.items) }
-    ensures late { IfOk result (λ ended. All (λ run. IfSome run.late (λ fault. fault ≡ ThreadFault.Engine EngineFault.NotYourTurn)) ended.items) }
-    ensures err { IfErr result (λ fault. fault ≡ ThreadFault.Memory) }
+    columns: &mut [Vec<S>],
+    mut ended: Vec<Ended<E, S>>,
+) -> Vec<Ended<E, S>>
+    requires room { IsRoomFor (length runs.items) ended }
+    ensures count { length result.items ≡ length runs.items }
+    ensures quiet { All (λ over. over.run.late ≡ None → is_quiet_in (E.engine over.run.engine).machine ≡ true) result.items }
+    ensures driven { All (λ over. over.run.late ≡ None → IsDriven (O.orders over.place) (E.engine over.run.engine).history) result.items }
+    ensures late { All (λ over. IfSome over.run.late (λ fault. fault ≡ ThreadFault.Engine EngineFault.NotYourTurn)) result.items }
 {
     for run in runs {
-        let over: Ended<E> = ended_of(run.into_inner());
-        if ended.push(over).is_err() {
-            return Err(ThreadFault::Memory);
-        }
+        let seats = last_seats(alloc, columns);
+        let over: Ended<E, S> = ended_of(alloc, run.into_inner(), seats);
+        ended.push(over).unwrap();
     }
-    Ok(ended)
+    ended
+}
+
+/// What the runs of a crew have in common, and room for each of them.
+#[derive(Drop)]
+struct Room<E: Engine, S, O: Orderings, D: Drives<E>> {
+    board: Board,
+    columns: Vec<Vec<S>>,
+    runs: Vec<Mutex<Shared<E, O, D>>>,
+    ended: Vec<Ended<E, S>>,
+}
+
+/// All the memory that a crew of so many runs takes beside what each run takes by itself.
+fn room_for<E: Engine, S: SeatAt<E>, O: Orderings, D: Drives<E> + Drop>(
+    alloc: Global,
+    sessions: u32,
+    count: usize,
+) -> Result<Room<E, S, O, D>, AllocError>
+    requires { sessions ≤ MOST_SESSIONS }
+    ensures { IfOk result (λ room. IsRoomFor count room.runs × IsRoomFor count room.ended) }
+{
+    let runs = Vec::with_capacity(alloc, count)?;
+    let ended = Vec::with_capacity(alloc, count)?;
+    let columns = columns::<E, S>(alloc, sessions, count)?;
+    let Ok(board) = Board::new(alloc, sessions, count) else {
+        return Err(AllocError);
+    };
+    Ok(Room {
+        board,
+        columns,
+        runs,
+        ended,
+    })
+}
+
+/// Runs these in the room that was made for them.
+fn run_in<
+    E: Engine + Send,
+    S: SeatAt<E> + Send,
+    O: Orderings + Send,
+    D: Drives<E> + Send + Drop,
+    G: Gate,
+    R: Threads + Wait + Sync,
+>(
+    rt: &R,
+    alloc: Global,
+    room: Room<E, S, O, D>,
+    opened: Vec<Opened<E, D>>,
+    gate: &G,
+) -> Vec<Ended<E, S>>
+    requires new { All (λ run. (E.engine run.engine).history ≡ []) opened.items }
+    requires orders { All (λ run. D.order_after run.driver ≡ O.orders run.place) opened.items }
+    requires follows { All (λ run. D.follows run.driver []) opened.items }
+    requires room { IsRoomFor (length opened.items) room.runs × IsRoomFor (length opened.items) room.ended }
+    ensures count { length result.items ≡ length opened.items }
+    ensures quiet { All (λ over. over.run.late ≡ None → is_quiet_in (E.engine over.run.engine).machine ≡ true) result.items }
+    ensures driven { All (λ over. over.run.late ≡ None → IsDriven (O.orders over.place) (E.engine over.run.engine).history) result.items }
+    ensures late { All (λ over. IfSome over.run.late (λ fault. fault ≡ ThreadFault.Engine EngineFault.NotYourTurn)) result.items }
+{
+    let Room {
+        board,
+        columns,
+        runs,
+        ended,
+    } = room;
+    let runs = begin_each(alloc, &board, opened, runs);
+    let mut columns = serve(rt, alloc, &runs, &board, gate, columns);
+    turn_round(&mut columns);
+    ended_of_each(alloc, runs, &mut columns, ended)
 }
 
 /// Runs on engines in which nothing has happened what their drivers order, each event in its session's own thread, which all
-/// runs have in common; the calling thread is the control session's, whose seats are the first. A thread does one event in
-/// each run in which it is its session's turn, and then hands those runs on. The thread whose event left an engine quiet asks
-/// that run's driver. Each event is put in its session's seat of the run by its thread. What ends one run early ends no other.
-/// Of more runs than 64 the others come to no end. The type says which orders the drivers' are.
+/// runs have in common; the calling thread is the control session's. A thread does one event in each run in which it is its
+/// session's turn, and then hands those runs on. The thread whose event left an engine quiet asks that run's driver. Each event
+/// is put in its session's seat of the run by its thread; the seats of a run are in the order of their sessions. What ends one
+/// run early ends no other, and a thread's start that is refused ends one. Of more runs than 64 the others come to no end.
+/// Where memory is refused for what the runs have in common, nothing has run. The type says which orders the drivers' are.
 pub fn run_crew<
     E: Engine + Send,
     S: SeatAt<E> + Send,
@@ -237,26 +331,17 @@ pub fn run_crew<
     alloc: Global,
     sessions: u32,
     opened: Vec<Opened<E, D>>,
-    columns: Vec<Vec<S>>,
     gate: &G,
-) -> Result<(Vec<Ended<E>>, Vec<Vec<S>>), ThreadFault>
+) -> Result<Vec<Ended<E, S>>, AllocError>
     requires few { sessions ≤ MOST_SESSIONS }
     requires new { All (λ run. (E.engine run.engine).history ≡ []) opened.items }
     requires orders { All (λ run. D.order_after run.driver ≡ O.orders run.place) opened.items }
     requires follows { All (λ run. D.follows run.driver []) opened.items }
-    ensures count { IfOk result (λ over. length over.0.items ≡ length opened.items) }
-    ensures quiet { IfOk result (λ over. All (λ run. run.late ≡ None → is_quiet_in (E.engine run.engine).machine ≡ true) over.0.items) }
-    ensures driven { IfOk result (λ over. All (λ run. run.late ≡ None → IsDriven (O.orders run.place) (E.engine run.engine).history) over.0.items) }
-    ensures late { IfOk result (λ over. All (λ run. IfSome run.late (λ fault. fault ≡ ThreadFault.Engine EngineFault.NotYourTurn)) over.0.items) }
-    ensures err { IfErr result (λ fault. fault ≡ ThreadFault.Memory) }
+    ensures count { IfOk result (λ ended. length ended.items ≡ length opened.items) }
+    ensures quiet { IfOk result (λ ended. All (λ over. over.run.late ≡ None → is_quiet_in (E.engine over.run.engine).machine ≡ true) ended.items) }
+    ensures driven { IfOk result (λ ended. All (λ over. over.run.late ≡ None → IsDriven (O.orders over.place) (E.engine over.run.engine).history) ended.items) }
+    ensures late { IfOk result (λ ended. All (λ over. IfSome over.run.late (λ fault. fault ≡ ThreadFault.Engine EngineFault.NotYourTurn)) ended.items) }
 {
-    let board = Board::new(alloc, sessions, opened.len())?;
-    let mut ended = Vec::new(alloc);
-    if ended.try_reserve(opened.len()).is_err() {
-        return Err(ThreadFault::Memory);
-    }
-    let runs: Vec<Mutex<Shared<E, O, D>>> = begin_each(alloc, &board, opened)?;
-    let columns = serve(rt, alloc, &runs, &board, gate, columns);
-    let ended = ended_of_each(runs, ended)?;
-    Ok((ended, columns))
+    let room = room_for::<E, S, O, D>(alloc, sessions, opened.len())?;
+    Ok(run_in(rt, alloc, room, opened, gate))
 }

@@ -152,7 +152,10 @@ fn start_scripts<
             continue;
         }
         let runner = Runner { bell, seat };
-        start_thread(scope, crew, move || run_script(rt, shared, gate, runner))?;
+        let started = start_thread(scope, crew, move || run_script(rt, shared, gate, runner));
+        if let Err(refused) = started {
+            return Err(refused.fault);
+        }
     }
     Ok(())
 }

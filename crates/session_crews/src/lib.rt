@@ -2,6 +2,7 @@
 //! driver orders and that are served side by side, and in a free run.
 #![tactic(auto)]
 
+mod columns;
 mod crew;
 mod directed;
 mod driven;

@@ -2,33 +2,28 @@
 use session_machine::{Event, HistItem, Reply};
 use std::thread::yield_now;
 
-/// Is asked before each event and told each reply, by the thread that does the event and without the lock.
+/// Is asked before each event and told each reply, by the thread that does the event and without the lock. As it is here it
+/// admits every event.
 pub trait Gate: Sync {
     /// How often it is asked for one event before the run ends; 0 counts as 1.
-    fn tries(&self) -> u64;
+    fn tries(&self) -> u64 {
+        1
+    }
 
     /// Whether the event may begin now.
-    fn admits(&self, event: Event) -> bool;
+    fn admits(&self, _event: Event) -> bool {
+        true
+    }
 
     /// Is told what came of an event.
-    fn answered(&self, event: Event, reply: &Reply<'_>);
+    fn answered(&self, _event: Event, _reply: &Reply<'_>) {}
 }
 
 /// Admits every event.
 #[derive(Clone, Copy)]
 pub struct OpenGate;
 
-impl Gate for OpenGate {
-    fn tries(&self) -> u64 {
-        1
-    }
-
-    fn admits(&self, _event: Event) -> bool {
-        true
-    }
-
-    fn answered(&self, _event: Event, _reply: &Reply<'_>) {}
-}
+impl Gate for OpenGate {}
 
 /// Whether the gate admits the event, as often as it may be asked.
 pub fn admitted<G: Gate>(gate: &G, event: Event) -> bool {

@@ -9,11 +9,20 @@ use std::alloc::Global;
 use std::marker::Model;
 
 /// A session's number, and its events with their replies, in order.
-#[derive(Drop)]
 pub struct Seat<'t> {
     session: u32,
     /// The events with their replies. One who puts another behind them makes room for it first.
     pub items: Vec<HistItem<'t>>,
+}
+
+/// Written out, so that a crate that drops a seat calls this, and needn't prove anew how each of its parts is dropped.
+impl<'t> Drop for Seat<'t> {
+    fn drop(self) {
+        let Seat {
+            session: _,
+            items: _,
+        } = self;
+    }
 }
 
 impl<'t> Model for Seat<'t> {
@@ -58,5 +67,5 @@ pub fn empty_seats<'t>(alloc: Global, sessions: u32) -> Result<Vec<Seat<'t>>, Th
     Ok(seats)
 }
 
-/// Lets the seats go, as a drop does. A crate that drops some proves anew how each of their parts is dropped.
+/// Lets the seats go, as a drop does.
 pub fn leave_seats(_seats: Vec<Seat<'_>>) {}

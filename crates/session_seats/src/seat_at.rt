@@ -4,16 +4,21 @@ ghost use Rattle.std.specs.Option.{option_copied};
 ghost use Rattle.session_machine.specs.Machine.{session_of};
 ghost use Rattle.session_seats.specs.Acts.{Acted, NotActed};
 ghost use Rattle.session_seats.specs.Free.{last_item};
-ghost use Rattle.session_seats.specs.Seats.{SeatOf};
+ghost use Rattle.session_seats.specs.Seats.{SeatOf, empty_seat};
 
 use crate::fault::ThreadFault;
 use crate::seat::Seat;
 use session_machine::{Answers, Engine, Event, HistItem};
+use std::alloc::Global;
 
 /// What a session's thread does with its seat and the engine at which it has it.
 pub trait SeatAt<E: Engine>: Drop {
     /// The session's number, and its events with their replies, in order.
     ghost seat: { Self → SeatOf };
+
+    /// The session's seat in which nothing stands. It takes no memory.
+    fn empty(alloc: Global, session: u32) -> Self
+        ensures { seat result ≡ empty_seat session };
 
     /// The session's number.
     fn session(&self) -> u32
@@ -34,6 +39,10 @@ pub trait SeatAt<E: Engine>: Drop {
 
 impl<'t, E: Answers<'t>> SeatAt<E> for Seat<'t> {
     ghost seat = { λ s. s };
+
+    fn empty(alloc: Global, session: u32) -> Self {
+        Seat::new(alloc, session)
+    }
 
     fn session(&self) -> u32 {
         Seat::session(self)

@@ -36,14 +36,6 @@ ran_each blocks count at place [] (r ∷ rs) few are ran = absurd (omega (arith,
 ran_each blocks count at place (orders ∷ behind) (r ∷ rs) few are ran =
     (subst (λ (o : Orders). IfOk r (RanBy blocks count o)) (sym are.0) ran.0, ran_each blocks count at (place + 1) behind rs (omega (arith, few)) are.1 ran.1)
 
--- what a loop has made and what is left are no more than there were
-pub count_within : {X Y : Type 0} (made now : List X) (left rest : List Y) (x : X) (y : Y) (all : ℕ)
-    → length made + length left ≤ all → left ≡ y ∷ rest → now ≡ made ++ x ∷ [] → length now + length rest ≤ all
-count_within {X = X} {Y = Y} made now left rest x y all so first pushed =
-    let longer : length now ≡ length made + 1 = ap length pushed ∙ length_push made x in
-    let fewer : length left ≡ suc (length rest) = ap length first in
-    omega (arith, so, longer, fewer)
-
 -- the orders of the first that is left are those of the place of what is made, and the others follow
 pub from_first : {X Y : Type 0} (at : ℕ → Orders) (of : Y → Orders) (made : List X) (left rest : List Y) (y : Y)
     → AreFrom at (length made) (map of left) → left ≡ y ∷ rest → of y ≡ at (length made)
@@ -72,7 +64,7 @@ all_none {X = X} xs P none = subst (All P) (sym none) (λ k or lt. absurd (omega
 pub all_same : {X : Type 0} (before now : List X) (P : X → Type 0) → now ≡ before → All P before → All P now
 all_same before now P same all = subst (All P) (sym same) all
 
-pub ran_by_each : (blocks : Blocks) (count n : ℕ) (all : List Orders) (result : Result (Vec (Result ClosedOf ThreadFault)) ThreadFault)
-    → n ≡ length all → IfOk result (λ runs. length runs.items ≤ n) → IfOk result (λ runs. RanFrom blocks count (orders_at all) 0 runs.items) → IfOk result (λ runs. RanByEach blocks count all runs.items)
+pub ran_by_each : {E : Type 0} (blocks : Blocks) (count n : ℕ) (all : List Orders) (result : Result (Vec (Result ClosedOf ThreadFault)) E)
+    → n ≡ length all → IfOk result (λ runs. length runs.items ≡ n) → IfOk result (λ runs. RanFrom blocks count (orders_at all) 0 runs.items) → IfOk result (λ runs. RanByEach blocks count all runs.items)
 ran_by_each blocks count n all (Err fault) same few ran = tt
 ran_by_each blocks count n all (Ok runs) same few ran = ran_each blocks count (orders_at all) 0 all runs.items (omega (arith, same, few)) (are_from all) ran

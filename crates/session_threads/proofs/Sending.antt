@@ -10,6 +10,7 @@ use Rattle.session_machine.proofs.reply.HistItem.TheSendSync.{the_send as item_s
 use Rattle.session_core.proofs.live.Live.TheSendSync.{the_send as live_send}
 use Rattle.session_core.specs.contracts.engine.EngineState as EngineState
 use Rattle.session_core.specs.contracts.engine.EngineState.TheInside as EngineInside
+use Rattle.session_threads.specs.contracts.held.Held as Held
 
 -- what is inside, and then as contracts see it
 inside_send : (κ λ' : NamedLft) (V : RattleType) (v : Versions.Ghosts V.Denot) → IsSend V → IsSend (EngineInside.the_row κ λ' V v)
@@ -23,3 +24,9 @@ inside_send κ λ' V v s =
 
 pub engine_send : (κ λ' : NamedLft) (V : RattleType) (v : Versions.Ghosts V.Denot) → IsSend V → IsSend (EngineState.the_row κ λ' V v)
 engine_send κ λ' V v s = view_send _ _ _ _ _ (inside_send κ λ' V v s)
+
+pub held_send : (κ λ' : NamedLft) (V : RattleType) (v : Versions.Ghosts V.Denot) → IsSend V → IsSend (Held.the_row κ λ' V v)
+held_send κ λ' V v s =
+    let T = Held.the_type κ λ' V v in
+    let all : AllSend (struct_shape T).fields = (engine_send κ λ' V v s, tt) in
+    recorded_send _ _ _ T.to_one (struct_send (struct_shape T) all)

@@ -14,7 +14,7 @@ pub record RanBy (blocks : Blocks) (count : ℕ) (orders : Orders) (closed : Clo
   pub quiet : is_quiet_in closed.state.machine ≡ true
   pub driven : IsDriven orders closed.state.history
 
--- each run that was closed ran by the orders at its place in the list; where memory was refused there are fewer runs than orders
+-- each run that was closed ran by the orders at its place in the list; there may be fewer runs than orders
 abbrev pub RanByEach : Blocks → ℕ → List Orders → List (Result ClosedOf ThreadFault) → Type 0
 RanByEach blocks count orders [] = Unit {0}
 RanByEach blocks count [] (run ∷ runs) = ⊥

@@ -8,6 +8,7 @@ ghost use Rattle.session_seats.specs.Seats.{empty_seats};
 ghost use Rattle.session_core.specs.Engines.{IsOf};
 ghost use Rattle.session_threads.specs.Seats.{AllFit, IsMisfit};
 
+use crate::held::Held;
 use row_versions::Versions;
 use session_core::EngineState;
 use session_crews::Joined;
@@ -19,10 +20,17 @@ use std::marker::Model;
 
 /// A run that is over: the engine's state, and a seat for each session, whose items are the history's items of that
 /// session, in order.
-#[derive(Drop)]
 pub struct Closed<'a, 't, V: Versions> {
-    state: EngineState<'a, 't, V>,
+    held: Held<'a, 't, V>,
     seats: Vec<Seat<'t>>,
+}
+
+/// Written out, as that of the engine is.
+impl<'a, 't, V: Versions> Drop for Closed<'a, 't, V> {
+    fn drop(self) {
+        let Closed { held: _, seats } = self;
+        leave_seats(seats);
+    }
 }
 
 impl<'a, 't, V: Versions> Model for Closed<'a, 't, V> {
@@ -35,9 +43,9 @@ impl<'a, 't, V: Versions> Model for Closed<'a, 't, V> {
 
     ghost coded = { Prim.hlevel (codes, tree_code) };
 
-    ghost view = { λ c. record { state = c.state; seats = c.seats.items } };
+    ghost view = { λ c. record { state = c.held.state; seats = c.seats.items } };
 
-    ghost invariant = { λ c. AllFit c.state c.seats.items };
+    ghost invariant = { λ c. AllFit c.held.state c.seats.items };
 }
 
 impl<'a, 't, V: Versions> Closed<'a, 't, V> {
@@ -45,7 +53,7 @@ impl<'a, 't, V: Versions> Closed<'a, 't, V> {
     pub fn state(&self) -> &EngineState<'a, 't, V>
         ensures { result.now ≡ self.now.state }
     {
-        &self.state
+        &self.held.state
     }
 
     /// The seats that were handed in.
@@ -53,15 +61,12 @@ impl<'a, 't, V: Versions> Closed<'a, 't, V> {
         ensures lends { result.now ≡ self.now.seats }
         ensures fit { AllFit self.now.state self.now.seats }
     {
-        let _ = &self.state;
+        let _ = &self.held;
         self.seats.as_slice()
     }
 
-    /// Lets the run go, as a drop does. A crate that drops one proves anew how each of its parts is dropped.
-    pub fn end(self) {
-        self.state.end();
-        leave_seats(self.seats);
-    }
+    /// Lets the run go, as a drop does.
+    pub fn end(self) {}
 }
 
 /// Puts the state and the seats together, where there is one seat for each session, and its items are the history's.
@@ -73,27 +78,26 @@ pub fn close<'a, 't, V: Versions>(
     ensures err { IfErr result (λ e. (s : ℕ) × (e ≡ ThreadFault.SeatMismatch s) × IsMisfit state.entry seats.entry.items s) }
 {
     let refused = seat_fault(&state, &seats);
-    closed_unless(refused, state, seats)
+    closed_unless(refused, Held { state }, seats)
 }
 
 /// The seats beside the state, unless something is against it.
 fn closed_unless<'a, 't, V: Versions>(
     refused: Option<ThreadFault>,
-    state: EngineState<'a, 't, V>,
+    held: Held<'a, 't, V>,
     seats: Vec<Seat<'t>>,
 ) -> Result<Closed<'a, 't, V>, ThreadFault>
-    requires { refused ≡ None → AllFit state seats.items }
+    requires { refused ≡ None → AllFit held.state seats.items }
     ensures refused { IfSome refused (λ fault. result ≡ Err fault) }
-    ensures closed { refused ≡ None → IfOk result (λ c. c ≡ record { state = state.entry; seats = seats.entry.items }) }
+    ensures closed { refused ≡ None → IfOk result (λ c. c ≡ record { state = held.entry.state; seats = seats.entry.items }) }
     ensures err { IfErr result (λ fault. refused ≡ Some fault) }
 {
     match refused {
         Some(fault) => {
-            state.end();
             leave_seats(seats);
             Err(fault)
         }
-        None => Ok(Closed { state, seats }),
+        None => Ok(Closed { held, seats }),
     }
 }
 
@@ -114,18 +118,18 @@ fn seat_fault<V: Versions>(
 /// The end of a run: the seats beside an engine that was opened over these blocks and sessions and in this mode. A fault that
 /// was met comes first, then another run, then what was seen after the joins, then the seats.
 pub fn end_of<'a, 't, V: Versions>(
-    run: Joined<EngineState<'a, 't, V>, Seat<'t>>,
+    run: Joined<Held<'a, 't, V>, Seat<'t>>,
     blocks: &[Block<'_>],
     sessions: u32,
     mode: Mode,
 ) -> Result<Closed<'a, 't, V>, ThreadFault>
     ensures met { IfSome run.entry.met (λ fault. result ≡ Err fault) }
-    ensures other_run { run.entry.met ≡ None → ¬ (IsOf run.entry.engine (blocks_of blocks.now) sessions mode) → result ≡ Err ThreadFault.OtherRun }
-    ensures late { run.entry.met ≡ None → IsOf run.entry.engine (blocks_of blocks.now) sessions mode → IfSome run.entry.late (λ fault. result ≡ Err fault) }
-    ensures seats { run.entry.met ≡ None → IsOf run.entry.engine (blocks_of blocks.now) sessions mode → run.entry.late ≡ None
-        → IfErr result (λ e. (s : ℕ) × (e ≡ ThreadFault.SeatMismatch s) × IsMisfit run.entry.engine run.entry.seats.items s) }
-    ensures ok { IfOk result (λ c. IsOf run.entry.engine (blocks_of blocks.now) sessions mode × (run.entry.met ≡ None) × (run.entry.late ≡ None)
-        × (c ≡ record { state = run.entry.engine; seats = run.entry.seats.items })) }
+    ensures other_run { run.entry.met ≡ None → ¬ (IsOf run.entry.engine.state (blocks_of blocks.now) sessions mode) → result ≡ Err ThreadFault.OtherRun }
+    ensures late { run.entry.met ≡ None → IsOf run.entry.engine.state (blocks_of blocks.now) sessions mode → IfSome run.entry.late (λ fault. result ≡ Err fault) }
+    ensures seats { run.entry.met ≡ None → IsOf run.entry.engine.state (blocks_of blocks.now) sessions mode → run.entry.late ≡ None
+        → IfErr result (λ e. (s : ℕ) × (e ≡ ThreadFault.SeatMismatch s) × IsMisfit run.entry.engine.state run.entry.seats.items s) }
+    ensures ok { IfOk result (λ c. IsOf run.entry.engine.state (blocks_of blocks.now) sessions mode × (run.entry.met ≡ None) × (run.entry.late ≡ None)
+        × (c ≡ record { state = run.entry.engine.state; seats = run.entry.seats.items })) }
 {
     let Joined {
         engine,
@@ -133,7 +137,7 @@ pub fn end_of<'a, 't, V: Versions>(
         met,
         late,
     } = run;
-    let refused = end_fault(&engine, blocks, sessions, mode, met, late, &seats);
+    let refused = end_fault(&engine.state, blocks, sessions, mode, met, late, &seats);
     closed_unless(refused, engine, seats)
 }
 
@@ -169,15 +173,15 @@ pub fn opened_with_seats<'a, 't, V: Versions>(
     sessions: u32,
     mode: Mode,
     store: V,
-) -> Result<(EngineState<'a, 't, V>, Vec<Seat<'t>>), ThreadFault>
+) -> Result<(Held<'a, 't, V>, Vec<Seat<'t>>), ThreadFault>
     requires few { sessions ≤ MOST_SESSIONS }
     requires empty { V.content store ≡ empty_content }
-    ensures ok { IfOk result (λ run. (run.0 ≡ opened (blocks_of blocks.now) sessions mode) × (run.1.items ≡ empty_seats sessions)) }
+    ensures ok { IfOk result (λ run. (run.0.state ≡ opened (blocks_of blocks.now) sessions mode) × (run.1.items ≡ empty_seats sessions)) }
     ensures err { IfErr result (λ fault. fault ≡ ThreadFault.Memory) }
 {
     let seats = empty_seats(alloc, sessions)?;
     match EngineState::new(alloc, blocks, sessions, mode, store) {
-        Ok(engine) => Ok((engine, seats)),
+        Ok(state) => Ok((Held { state }, seats)),
         Err(_) => {
             leave_seats(seats);
             Err(ThreadFault::Memory)

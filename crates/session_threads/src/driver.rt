@@ -3,6 +3,7 @@ ghost use Rattle.std.specs.Prelude.{◌≡◌, ◌++◌, IfOk, OnOk, List};
 ghost use Rattle.session_machine.specs.declared.reply.HistItem.{HistItem as Item};
 ghost use Rattle.session_machine.specs.declared.event.Order.{Order as Given};
 
+use crate::held::Held;
 use row_versions::Versions;
 use session_core::EngineState;
 use session_crews::Drives;
@@ -65,17 +66,13 @@ impl<V: Versions, D: Driver<V>> ByDriver<V, D> {
     }
 }
 
-impl<'a, 't, V: Versions, D: Driver<V>> Drives<EngineState<'a, 't, V>> for ByDriver<V, D> {
+impl<'a, 't, V: Versions, D: Driver<V>> Drives<Held<'a, 't, V>> for ByDriver<V, D> {
     ghost order_after = { λ d items. D.order_after d.driver items };
 
     ghost follows = { λ d items. D.follows d.driver items };
 
-    fn next(
-        &mut self,
-        alloc: Global,
-        engine: &EngineState<'a, 't, V>,
-    ) -> Result<Order, AllocError> {
-        self.driver.next(alloc, engine)
+    fn next(&mut self, alloc: Global, engine: &Held<'a, 't, V>) -> Result<Order, AllocError> {
+        self.driver.next(alloc, &engine.state)
     }
 
     ghost goes_on = { λ d items more. D.goes_on d.driver items more };

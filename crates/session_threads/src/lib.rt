@@ -7,6 +7,7 @@ mod closing;
 mod directed;
 mod driver;
 mod free;
+mod held;
 
 pub use acting::act;
 pub use closing::{Closed, close};

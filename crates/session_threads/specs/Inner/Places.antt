@@ -1,5 +1,6 @@
 -- The orders of a crew's runs, by their places.
-use Rattle.std.specs.Prelude.{◌≡◌, ℕ, ◌+◌, zero, suc, List, [], ◌∷◌, Result, IfOk}
+use Rattle.std.specs.Prelude.{◌≡◌, ◌≤◌, ℕ, ◌+◌, zero, suc, List, [], ◌∷◌, Result, IfOk, vec_len, vec_capacity}
+use Rattle.std.specs.Global.{Vec}
 use Rattle.session_machine.specs.Machine.{Blocks}
 use Rattle.session_machine.specs.declared.event.Order.TheVariants.{Stop}
 use Rattle.session_seats.specs.declared.fault.ThreadFault.{ThreadFault}
@@ -22,3 +23,9 @@ AreFrom at place (orders ∷ behind) = (orders ≡ at place) × AreFrom at (plac
 abbrev pub RanFrom : Blocks → ℕ → (ℕ → Orders) → ℕ → List (Result ClosedOf ThreadFault) → Type 0
 RanFrom blocks count at place [] = Unit {0}
 RanFrom blocks count at place (run ∷ runs) = IfOk run (RanBy blocks count (at place)) × RanFrom blocks count at (place + 1) runs
+
+-- the list is empty, with room for so many
+pub record IsRoomFor {X : Type 0} (count : ℕ) (room : Vec X) : Type 0 where
+  pub empty : room.items ≡ []
+  pub long : vec_len room ≡ 0
+  pub wide : count ≤ vec_capacity room

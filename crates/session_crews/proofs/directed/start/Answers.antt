@@ -6,5 +6,5 @@ use Rattle.session_crews.proofs.crew.Desk.TheSendSync.{the_send as desk_send}
 use Rattle.session_crews.proofs.directed.start.Goals as goal
 
 -- what a thread is lent may cross to it
-pub start_thread-requires-send-F : goal.start_thread-requires-send-F
-start_thread-requires-send-F g c κs within = search (sendable, mutex_sync, board_sync, desk_send, shared_send) depth 60 fits 10000
+pub start_one-refused-requires-send-F : goal.start_one-refused-requires-send-F
+start_one-refused-requires-send-F g c κs within = search (sendable, mutex_sync, board_sync, desk_send, shared_send) depth 60 fits 10000

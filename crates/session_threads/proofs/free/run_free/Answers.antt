@@ -2,7 +2,7 @@ use denote.Param.Send.{sendable}
 use Rattle.std.proofs.Common.{◌≡◌, sym, subst}
 use Rattle.std.specs.Prelude.{Result, Ok, Err, IfOk, is_some, true}
 use Rattle.session_seats.specs.FreeRuns.{FitsPlan}
-use Rattle.session_threads.proofs.Sending.{engine_send}
+use Rattle.session_threads.proofs.Sending.{held_send}
 use Rattle.session_threads.proofs.free.run_free.Goals as goal
 
 -- what a call answers well has what follows from what it says of it
@@ -12,7 +12,7 @@ implied (Err e) f p = tt
 
 -- the engine may cross to the threads
 pub run_scripts-run-requires-send-E : goal.run_scripts-run-requires-send-E
-run_scripts-run-requires-send-E g c κs within = search (sendable, engine_send) depth 60 fits 10000
+run_scripts-run-requires-send-E g c κs within = search (sendable, held_send) depth 60 fits 10000
 
 pub returns-clause-fits : goal.returns-clause-fits
 returns-clause-fits g c =
