@@ -9,10 +9,9 @@ use Rattle.session_machine.specs.declared.event.Mode.TheVariants.{Directed}
 use Rattle.session_machine.specs.declared.fault.EngineFault.{EngineFault}
 use Rattle.session_machine.specs.declared.fault.Refusal.{Refusal}
 use Rattle.session_machine.specs.declared.reply.HistItem.{HistItem}
-use Rattle.session_machine.specs.Machine.{Machine, Blocks, Next, next, turn_in}
+use Rattle.session_machine.specs.Machine.{Blocks, Next, next, turn_in}
 use Rattle.session_seats.specs.declared.fault.ThreadFault.TheVariants as thread_faults
 use Rattle.session_seats.specs.Orders.{IsOrder, OrderedAfter}
-use Rattle.wait_laws.specs.Laws.{RestIsReached}
 use Rattle.wait_laws.proofs.Rest.{rest_is_reached}
 use Rattle.spec_parser.specs.Trees.{EntryTree, SpecTree}
 use Rattle.report_lines.specs.Starts.{order_of}

@@ -1,4 +1,4 @@
-use Rattle.std.proofs.Common.{◌≡◌, ◌∷◌, ◌<◌, ◌||◌, [], List, Err, subst, rules, arith, refl, sym}
+use Rattle.std.proofs.Common.{◌≡◌, ◌∷◌, ◌<◌, [], List, Err, subst, rules, arith, refl, sym}
 use Rattle.std.specs.Prelude.{Contains}
 use Rattle.std.proofs.lemmas.List.Elements.{Contains-append_left, Contains-append_right, Contains-push}
 use Rattle.std.proofs.lemmas.Result.{err_from_is_err_and}

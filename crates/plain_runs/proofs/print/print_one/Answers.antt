@@ -1,4 +1,4 @@
-use Rattle.std.proofs.Common.{List, [], ◌∷◌, ◌||◌, map, subst, sym, true≢false, ◌∙◌}
+use Rattle.std.proofs.Common.{List, ◌||◌, map, subst, sym, true≢false, ◌∙◌}
 use Rattle.std.proofs.lemmas.Result.{err_from_is_err_and}
 use Rattle.sql_blocks.specs.Blocks.{blocks_of}
 use Rattle.session_machine.specs.declared.reply.HistItem.{HistItem}
