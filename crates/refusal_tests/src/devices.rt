@@ -43,7 +43,7 @@ struct Ran {
 }
 
 /// Runs the file by so many reads, so many puts on the output, and so many on the notes.
-fn ran<R: Threads + Wait + Sync>(
+fn run_with<R: Threads + Wait + Sync>(
     rt: &R,
     alloc: Global,
     reads: usize,
@@ -92,19 +92,19 @@ const ALL: usize = usize::MAX;
 #[test]
 fn each_read_fails_in_turn(rt: HostRuntime) {
     for reads in 0..=FILE.len() {
-        let run = ran(&rt, rt.alloc(), reads, ALL, ALL);
+        let run = run_with(&rt, rt.alloc(), reads, ALL, ALL);
         holds(&rt, is_unread(&run), "a read");
     }
-    let run = ran(&rt, rt.alloc(), FILE.len() + 1, ALL, ALL);
+    let run = run_with(&rt, rt.alloc(), FILE.len() + 1, ALL, ALL);
     holds(&rt, is_whole(&run), "all reads");
 }
 
 #[test]
 fn each_put_fails_in_turn(rt: HostRuntime) {
-    let mut failed = 0;
+    let mut failed = 0usize;
     for puts in 0..MOST_PUTS {
-        let run = ran(&rt, rt.alloc(), ALL, puts, ALL);
-        failed += usize::from(!is_whole(&run));
+        let run = run_with(&rt, rt.alloc(), ALL, puts, ALL);
+        failed = failed.wrapping_add(usize::from(!is_whole(&run)));
         holds(&rt, is_whole(&run) || is_cut(&run), "a put");
     }
     holds(&rt, 0 < failed && failed < MOST_PUTS, "some puts");
@@ -112,10 +112,10 @@ fn each_put_fails_in_turn(rt: HostRuntime) {
 
 #[test]
 fn each_note_fails_in_turn(rt: HostRuntime) {
-    let mut failed = 0;
+    let mut failed = 0usize;
     for noted in 0..MOST_PUTS {
-        let run = ran(&rt, rt.alloc(), ALL, ALL, noted);
-        failed += usize::from(!is_whole(&run));
+        let run = run_with(&rt, rt.alloc(), ALL, ALL, noted);
+        failed = failed.wrapping_add(usize::from(!is_whole(&run)));
         holds(&rt, is_whole(&run) || is_noteless(&run), "a note");
     }
     holds(&rt, 0 < failed && failed < MOST_PUTS, "some notes");

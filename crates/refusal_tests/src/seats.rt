@@ -102,14 +102,19 @@ fn goes_on(rt: &impl Abort, engine: &mut Engine<'_>, seats: &mut [Seat<'static>]
     true
 }
 
-/// Whether all events are done. The seats fit the engine, wherever that ended.
-fn fit(rt: &impl Abort, alloc: Global, blocks: &[Block<'static>]) -> Result<bool, AllocError> {
-    let store = ListStore::new(alloc);
-    let mut engine = EngineState::new(alloc, blocks, 2, Mode::Directed, store)?;
+fn empty_seats(alloc: Global) -> Result<Vec<Seat<'static>>, AllocError> {
     let mut seats = Vec::new(alloc);
     for session in 0..3 {
         seats.push(Seat::new(alloc, session))?;
     }
+    Ok(seats)
+}
+
+/// Whether all events are done. The seats fit the engine, wherever that ended.
+fn fit(rt: &impl Abort, alloc: Global, blocks: &[Block<'static>]) -> Result<bool, AllocError> {
+    let store = ListStore::new(alloc);
+    let mut engine = EngineState::new(alloc, blocks, 2, Mode::Directed, store)?;
+    let mut seats = empty_seats(alloc)?;
     let are_done = goes_on(rt, &mut engine, &mut seats);
     holds(rt, close(engine, seats).is_ok(), "the seats fit");
     Ok(are_done)
