@@ -1,4 +1,4 @@
-//! Four runs in which statements wait. Each test also passes where any one allocation fails:
+//! Three runs in which statements wait. Each test also passes where any one allocation fails:
 //! the engine that was refused is then spent, its history is the one before that event, and the run is made again.
 
 use crate::tables::Given::{Launch, Step};
@@ -111,37 +111,6 @@ const KEY_CALLS: [Call; 14] = [
     (Step(1), "answered taken t_v_key and ended"),
 ];
 
-/// Session 1 writes a key and rolls back. Session 2 waits for that key and takes it, session 3 waits for both and finds it taken.
-const FREED: [Line; 6] = [
-    (0, "CREATE TABLE t (k int PRIMARY KEY)", ""),
-    (1, "BEGIN; INSERT INTO t VALUES (1)", ""),
-    (2, "BEGIN; INSERT INTO t VALUES (1)", ""),
-    (3, "INSERT INTO t VALUES (1)", ""),
-    (1, "ROLLBACK", ""),
-    (2, "COMMIT", ""),
-];
-
-const FREED_CALLS: [Call; 16] = [
-    (Launch(0, 0), "answered"),
-    (Step(0), "answered and ended"),
-    (Launch(1, 1), "answered"),
-    (Step(1), "answered"),
-    (Step(1), "answered and ended"),
-    (Launch(2, 2), "answered"),
-    (Step(2), "answered"),
-    (Step(2), "answered waits"),
-    (Launch(3, 3), "answered"),
-    (Step(3), "answered waits"),
-    (Launch(1, 4), "answered"),
-    (Step(1), "answered and ended"),
-    (Step(2), "answered and ended"),
-    (Launch(2, 5), "answered"),
-    (Step(2), "answered and ended"),
-    (Step(3), "answered taken t_pkey and ended"),
-];
-
-const FREED_SIGHTS: [Sight; 2] = [(0, "t", " | 1"), (3, "t", " | 1")];
-
 const DELETES: Run<'static> = Run {
     lines: &DELETE,
     sessions: 4,
@@ -180,20 +149,4 @@ const CYCLE: Run<'static> = Run {
 #[test]
 fn a_cycle_of_keys_is_refused_memory(rt: HostRuntime) {
     goes(&rt, rt.alloc(), &CYCLE);
-}
-
-const FREED_KEY: Run<'static> = Run {
-    lines: &FREED,
-    sessions: 4,
-    mode: Mode::Directed,
-    tries: &[
-        Try::Calls(&FREED_CALLS),
-        Try::Sights(&FREED_SIGHTS),
-        Try::Rests(16),
-    ],
-};
-
-#[test]
-fn a_key_that_is_freed_is_refused_memory(rt: HostRuntime) {
-    goes(&rt, rt.alloc(), &FREED_KEY);
 }

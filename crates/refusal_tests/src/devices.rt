@@ -1,7 +1,7 @@
 //! Each read of a run fails in turn, then each put on its output, then each put on its notes.
 
 use crate::asking::holds;
-use crate::files::run;
+use crate::files::{ends_in_want, run};
 use permutations::RunFault;
 use std::alloc::Global;
 use std::process::Abort;
@@ -42,19 +42,25 @@ struct Ran {
     notes: Takes,
 }
 
-/// Runs the file by so many reads, so many puts on the output, and so many on the notes.
-fn run_with<R: Threads + Wait + Sync>(
-    rt: &R,
-    alloc: Global,
-    reads: usize,
-    puts: usize,
-    noted: usize,
-) -> Ran {
+/// So many reads, puts on the output, and puts on the notes.
+type Counts = (usize, usize, usize);
+
+fn run_once<R: Threads + Wait + Sync>(rt: &R, alloc: Global, counts: Counts) -> Ran {
+    let (reads, puts, noted) = counts;
     let mut input = Gives::new(FILE, reads);
     let mut out = Takes::new(puts);
     let mut notes = Takes::new(noted);
     let answer = run(rt, alloc, &mut input, &mut out, &mut notes);
     Ran { answer, out, notes }
+}
+
+/// Runs the file by so many of each, once more where memory or a thread was wanted.
+fn run_with<R: Threads + Wait + Sync>(rt: &R, alloc: Global, counts: Counts) -> Ran {
+    let first = run_once(rt, alloc, counts);
+    if ends_in_want(&first.answer) {
+        return run_once(rt, alloc, counts);
+    }
+    first
 }
 
 /// Whether the run came to its end, behind its whole text and its note.
@@ -92,10 +98,10 @@ const ALL: usize = usize::MAX;
 #[test]
 fn each_read_fails_in_turn(rt: HostRuntime) {
     for reads in 0..=FILE.len() {
-        let run = run_with(&rt, rt.alloc(), reads, ALL, ALL);
+        let run = run_with(&rt, rt.alloc(), (reads, ALL, ALL));
         holds(&rt, is_unread(&run), "a read");
     }
-    let run = run_with(&rt, rt.alloc(), FILE.len() + 1, ALL, ALL);
+    let run = run_with(&rt, rt.alloc(), (FILE.len() + 1, ALL, ALL));
     holds(&rt, is_whole(&run), "all reads");
 }
 
@@ -103,7 +109,7 @@ fn each_read_fails_in_turn(rt: HostRuntime) {
 fn each_put_fails_in_turn(rt: HostRuntime) {
     let mut failed = 0usize;
     for puts in 0..MOST_PUTS {
-        let run = run_with(&rt, rt.alloc(), ALL, puts, ALL);
+        let run = run_with(&rt, rt.alloc(), (ALL, puts, ALL));
         failed = failed.wrapping_add(usize::from(!is_whole(&run)));
         holds(&rt, is_whole(&run) || is_cut(&run), "a put");
     }
@@ -114,7 +120,7 @@ fn each_put_fails_in_turn(rt: HostRuntime) {
 fn each_note_fails_in_turn(rt: HostRuntime) {
     let mut failed = 0usize;
     for noted in 0..MOST_PUTS {
-        let run = run_with(&rt, rt.alloc(), ALL, ALL, noted);
+        let run = run_with(&rt, rt.alloc(), (ALL, ALL, noted));
         failed = failed.wrapping_add(usize::from(!is_whole(&run)));
         holds(&rt, is_whole(&run) || is_noteless(&run), "a note");
     }

@@ -2,7 +2,8 @@
 
 use iso_lexer::{Sink, Source};
 use permutations::{RunFault, run_spec};
-use session_threads::OpenGate;
+use session_machine::EngineFault;
+use session_threads::{OpenGate, ThreadFault};
 use std::alloc::Global;
 use std::sync::Wait;
 use std::thread::Threads;
@@ -33,4 +34,30 @@ pub fn run<S: Source, W: Sink, N: Sink, R: Threads + Wait + Sync>(
     notes: &mut N,
 ) -> Result<(), RunFault> {
     run_spec(rt, alloc, input, out, notes, MOST, &OpenGate)
+}
+
+fn wants_of_threads(fault: ThreadFault) -> bool {
+    matches!(
+        fault,
+        ThreadFault::ThreadRefused
+            | ThreadFault::Memory
+            | ThreadFault::Engine(EngineFault::Memory | EngineFault::Spent)
+    )
+}
+
+/// Whether memory was wanted, or a thread.
+pub fn is_want(fault: &RunFault) -> bool {
+    match fault {
+        RunFault::Memory => true,
+        RunFault::Threads(fault) => wants_of_threads(*fault),
+        _ => false,
+    }
+}
+
+/// Whether the run ended in such a want, which stands in its way once.
+pub fn ends_in_want(answer: &Result<(), RunFault>) -> bool {
+    match answer {
+        Ok(()) => false,
+        Err(fault) => is_want(fault),
+    }
 }

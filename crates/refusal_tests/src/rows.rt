@@ -2,10 +2,9 @@
 //! made again. `bench/allocations.sh refusal_tests` refuses each allocation and each start of a thread in turn.
 
 use crate::asking::holds;
-use crate::files::{DELETE_WAITS, run};
+use crate::files::{DELETE_WAITS, is_want, run};
 use permutations::{RunFault, free_spec};
-use session_machine::EngineFault;
-use session_threads::{OpenGate, ThreadFault};
+use session_threads::OpenGate;
 use std::alloc::Global;
 use std::process::Abort;
 use std::sync::Wait;
@@ -154,24 +153,6 @@ fn answer_of<R: Threads + Wait + Sync>(
         free_spec(rt, alloc, &mut input, out, &mut notes, &OpenGate)
     } else {
         run(rt, alloc, &mut input, out, &mut notes)
-    }
-}
-
-fn wants_of_threads(fault: ThreadFault) -> bool {
-    matches!(
-        fault,
-        ThreadFault::ThreadRefused
-            | ThreadFault::Memory
-            | ThreadFault::Engine(EngineFault::Memory | EngineFault::Spent)
-    )
-}
-
-/// Whether memory was wanted, or a thread.
-fn is_want(fault: &RunFault) -> bool {
-    match fault {
-        RunFault::Memory => true,
-        RunFault::Threads(fault) => wants_of_threads(*fault),
-        _ => false,
     }
 }
 
