@@ -1,11 +1,11 @@
 #!/usr/bin/env bash
 # Feeds the isolation tester files that mean it ill: bench/hostile.sh [FILES [SEED]]. It needs ./build first, and Python.
 #
-# First come a file that is cut at each of its bytes, the files that are as deep and as wide as they may be, on a small stack and in little memory, a reader that gives
-# a byte a time, an output that is closed, one that is full, and an input that can't be read. Then FILES files, 100,000 if not said: random bytes, random tokens, damaged
-# examples, and specs of random statements, a quarter of each. Each has to end within a second, by itself, with a status and texts that go together: 0 and no fault, or 1
-# and a fault line, the last of the errors; where the file is refused nothing is put out. One in fifty runs twice, and both put the same. Each case has a line; the
-# status is 0 where all are well.
+# First come a file that is cut at each of its bytes, the files that are as deep and as wide as they may be, on a small stack and in little memory, and in less and less
+# of it, a reader that gives a byte a time, an output whose reader is gone, at once or behind one line, one that is full, errors that are full, and an input that can't be
+# read. Then FILES files, 100,000 if not said: random bytes, random tokens, damaged examples, and specs of random statements, a quarter of each. Each has to end within a
+# second, by itself, with a status and texts that go together: 0 and no fault, or 1 and a fault line, the last of the errors; where the file is refused nothing is put out.
+# One in fifty runs twice, and both put the same. Each case has a line; the status is 0 where all are well.
 set -eu
 here=$(cd "$(dirname "$0")/.." && pwd)
 . "$here/tools/built.sh"
@@ -189,31 +189,64 @@ def random_files():
         print(line)
 
 
+# Expressions of the most levels that there may be.
+DEEPEST = ("(" * 63 + "1" + ")" * 63, "1" + "+1" * 64, "NOT " * 64 + "TRUE")
+# A block of the most statements that there may be.
+FULLEST = "; ".join(["SELECT 1"] * 256)
+
+
+def widest():
+    """Returns a file of 64 sessions and 1,000 steps, all of which stand in its permutation. Every fourth step is a block of 256 statements, the others a deepest expression."""
+    names = [f"a{number}" for number in range(1000)]
+    text = ""
+    for session in range(64):
+        text += f"session s{session} "
+        for number in range(session, 1000, 64):
+            text += f"step {names[number]} {{ {FULLEST if number % 4 == 3 else f'SELECT {DEEPEST[number % 4]}'} }} "
+    return text + "permutation " + " ".join(names)
+
+
 def deepest_and_widest():
-    deep = "(" * 63 + "1" + ")" * 63
-    chain = "1" + "+1" * 64
-    nots = "NOT " * 64 + "TRUE"
-    steps = [(session, f"s{session}_{step}") for session in range(64) for step in range(15)]
-    widest = "".join(
-        f"session s{session} " + "".join(f"step {name} {{ SELECT {deepest}; }} " for (own, name), deepest in zip(steps, [deep, chain, nots] * 320) if own == session)
-        for session in range(64)
-    )
-    yield "64 sessions of deepest expressions, 960 steps in one permutation", widest + "permutation " + " ".join(name for _, name in steps)
-    yield "256 statements in a block", "session s step a { " + "; ".join(["SELECT 1"] * 256) + " }"
+    yield "64 sessions, 1,000 steps, deepest expressions and 256 statements in a block", widest()
     yield "1,000 steps of one session", "session s " + " ".join(f"step a{k} {{ SELECT {k}; }}" for k in range(1000))
     yield "a mebibyte of one INSERT's rows", "setup { CREATE TABLE t (v int); INSERT INTO t VALUES " + ",".join(["(1)"] * 250000) + "; } session s step a { SELECT count(*) FROM t; }"
 
 
-def small():
-    resource.setrlimit(resource.RLIMIT_STACK, (1 << 20, 1 << 20))
-    # (each of 64 threads has a stack of a mebibyte, and the C library keeps more of the address space than it uses)
-    resource.setrlimit(resource.RLIMIT_AS, (6 << 30, 6 << 30))
+def in_room(text, mebibytes):
+    """Runs the program on this text, on a stack of a mebibyte, where no more may be mapped than so many."""
+
+    def small():
+        resource.setrlimit(resource.RLIMIT_STACK, (1 << 20, 1 << 20))
+        resource.setrlimit(resource.RLIMIT_AS, (mebibytes << 20, mebibytes << 20))
+
+    return subprocess.run([program], input=text.encode(), capture_output=True, preexec_fn=small, timeout=PATIENCE)
+
+
+# Each of 64 threads has a stack of a mebibyte, and the C library keeps more of the address space than it uses.
+ENOUGH = 6 << 10
+# Where less than this may be mapped the program may not even be loaded.
+LEAST = 16
 
 
 def in_small_room():
     for what, text in deepest_and_widest():
-        it = subprocess.run([program], input=text.encode(), capture_output=True, preexec_fn=small, timeout=PATIENCE)
+        it = in_room(text, ENOUGH)
         says(f"{what}, on a stack of a mebibyte", it.returncode == 0 and it.stdout.startswith(HEAD), "" if it.returncode == 0 else f" (status {it.returncode}: {it.stderr[-100:]!r})")
+
+
+def in_less_and_less_room():
+    text = widest()
+    whole = in_room(text, ENOUGH).stdout
+    wants = (b"isolationtester: Memory\n", b"isolationtester: R10 Threads\n")
+    bad, told, room = [], 0, ENOUGH
+    while room >= LEAST:
+        it = in_room(text, room)
+        is_told = it.returncode == 3 and it.stderr in wants and whole.startswith(it.stdout)
+        is_whole = (it.returncode, it.stdout, it.stderr) == (0, whole, b"")
+        told += is_told
+        bad += [] if is_told or is_whole else [f" ({room} MiB: status {it.returncode}, {it.stderr[-100:]!r})"]
+        room = room * 7 // 8
+    says("that file in less and less room", not bad and told, "".join(bad[:3]) or f", {told} times told as a want")
 
 
 def byte_by_byte():
@@ -231,20 +264,40 @@ def byte_by_byte():
     says("a reader that gives a byte a time", (it.returncode, it.stdout, it.stderr) == ran(text, [])[:3])
 
 
-def bad_devices():
-    text = open(f"{here}/examples/specs/delete_waits_and_does_not_rescan.spec", "rb").read()
-    write = b"isolationtester: R2 Write\n"
+READ, WRITE = b"isolationtester: R1 Read\n", b"isolationtester: R2 Write\n"
+
+
+def bad_outputs(text):
     reader, writer = os.pipe()
     os.close(reader)
     it = subprocess.run([program], input=text, stdout=writer, stderr=subprocess.PIPE, timeout=PATIENCE)
     os.close(writer)
-    says("an output that is closed", (it.returncode, it.stderr) == (3, write), f" (status {it.returncode}, {it.stderr!r})")
+    says("an output whose reader is gone", (it.returncode, it.stderr) == (3, WRITE), f" (status {it.returncode}, {it.stderr!r})")
     with open("/dev/full", "wb") as full:
         it = subprocess.run([program], input=text, stdout=full, stderr=subprocess.PIPE, timeout=PATIENCE)
-    says("a disk that is full", (it.returncode, it.stderr) == (3, write), f" (status {it.returncode}, {it.stderr!r})")
+        says("a disk that is full", (it.returncode, it.stderr) == (3, WRITE), f" (status {it.returncode}, {it.stderr!r})")
+        noted = open(f"{here}/examples/faults/teardown_would_wait.spec", "rb").read()
+        it = subprocess.run([program], input=noted, stdout=subprocess.PIPE, stderr=full, timeout=PATIENCE)
+        says("errors that are full", (it.returncode, it.stdout) == (3, ran(noted, [])[1]), f" (status {it.returncode}, {it.stdout!r})")
+
+
+def only_one_line_is_read():
+    # (its 3,432 permutations print more than a pipe holds)
+    text = "".join(f"session {name} " + "".join(f"step {name}{k} {{ SELECT {k}; }} " for k in range(7)) for name in "st")
+    with open(f"{room}/many.spec", "w", encoding="utf-8") as it:
+        it.write(text)
+    line = 'set +e; "$0" < "$1" 2> "$1.err" | head -1 > "$1.out"; echo ${PIPESTATUS[0]}'
+    it = subprocess.run(["bash", "-c", line, program, f"{room}/many.spec"], capture_output=True, timeout=PATIENCE)
+    came = it.stdout, open(f"{room}/many.spec.out", "rb").read(), open(f"{room}/many.spec.err", "rb").read()
+    says("a reader that goes behind one line", came == (b"3\n", HEAD + b"2 sessions\n", WRITE), f" ({came!r})")
+
+
+def bad_devices():
+    bad_outputs(open(f"{here}/examples/specs/delete_waits_and_does_not_rescan.spec", "rb").read())
+    only_one_line_is_read()
     folder = os.open(room, os.O_RDONLY)
     it = subprocess.run([program], stdin=folder, capture_output=True, timeout=PATIENCE)
-    says("an input that can't be read", (it.returncode, it.stdout, it.stderr) == (3, b"", b"isolationtester: R1 Read\n"), f" (status {it.returncode}, {it.stderr!r})")
+    says("an input that can't be read", (it.returncode, it.stdout, it.stderr) == (3, b"", READ), f" (status {it.returncode}, {it.stderr!r})")
 
 
 def cut_files():
@@ -256,6 +309,7 @@ def cut_files():
 
 cut_files()
 in_small_room()
+in_less_and_less_room()
 byte_by_byte()
 bad_devices()
 random_files()
