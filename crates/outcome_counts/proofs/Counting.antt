@@ -33,7 +33,7 @@ map_counts f xs k x y within is more = map-set f xs k y ∙ ap (λ (v : ℕ). se
 
 -- ---- an outcome is the same as itself
 
-answer_itself : (a : Outcome) → SameAnswer a a
+pub answer_itself : (a : Outcome) → SameAnswer a a
 answer_itself Launched = refl
 answer_itself Done = refl
 answer_itself (Rows set) = (refl, λ row. refl)

@@ -1,3 +1,4 @@
 pub mod Multisets
 pub mod Pairs
 pub mod Counting
+pub mod Sameness

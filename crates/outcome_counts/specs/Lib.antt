@@ -1,5 +1,6 @@
 pub mod Rows
 pub mod Outcomes
 pub mod Counts
+pub mod Serial
 pub mod Code
 pub mod Inner

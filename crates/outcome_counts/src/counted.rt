@@ -1,6 +1,7 @@
 //! Permutations by what came of them.
 
-ghost use Rattle.std.specs.Prelude.{◌≡◌, ◌+◌, ◌<◌, ◌^◌, ◌∷◌, ◌++◌, [], IfOk, MatchOption, OnOk, length, slice_index, slice_set};
+ghost use Rattle.std.specs.Prelude.{◌≡◌, ◌+◌, ◌<◌, ◌^◌, ◌∷◌, ◌++◌, [], IfOk, MatchOption, OnOk, length, map, slice_index, slice_set};
+ghost use Rattle.spec_parser.specs.Trees.{entry_view};
 ghost use Rattle.outcome_counts.specs.Counts.{HasRoom, counts_view};
 ghost use Rattle.outcome_counts.specs.Code.Adding.{IsAdded, IsAt, IsNew, outcomes_in};
 
@@ -27,7 +28,7 @@ pub struct Counted<'t> {
 }
 
 /// How often the entries go from one session to another.
-pub fn switches_in(entries: &[Entry]) -> usize {
+fn switches_in(entries: &[Entry]) -> usize {
     let mut switches = 0usize;
     let mut last = 0;
     for entry in entries {
@@ -40,7 +41,9 @@ pub fn switches_in(entries: &[Entry]) -> usize {
 }
 
 /// The same entries again.
-pub fn copied_entries(alloc: Global, entries: &[Entry]) -> Result<Vec<Entry>, AllocError> {
+pub fn copied_entries(alloc: Global, entries: &[Entry]) -> Result<Vec<Entry>, AllocError>
+    ensures { IfOk result (λ copies. map entry_view copies.items ≡ map entry_view entries.now) }
+{
     let mut copies = Vec::new(alloc);
     for entry in entries {
         copies.push(Entry {

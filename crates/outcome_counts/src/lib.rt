@@ -7,8 +7,12 @@ mod counted;
 pub mod laws;
 mod outcome;
 mod rows;
+mod serial;
+mod standing;
 
 pub use alike::{same_answers, same_table};
 pub use answers::answers_of;
-pub use counted::{Counted, Group, copied_entries, switches_in};
+pub use counted::{Counted, Group, copied_entries};
 pub use outcome::RunOutcome;
+pub use serial::is_serial;
+pub use standing::Standing;
