@@ -7,7 +7,6 @@ use outcome_text::answer_of;
 use std::fs;
 use std::process::ExitCode;
 use std::rt::Runtime;
-use std::sync::Wait;
 
 /// More permutations than any example has.
 const LIMIT: u64 = 10_000;
@@ -35,17 +34,17 @@ fn text_or_none<R: Runtime + AllocGlobal>(rt: &R, path: &str) -> Result<String> 
 }
 
 /// What is said of an example.
-fn said_of<R: Runtime + AllocGlobal + Wait>(rt: &R, name: &str) -> Result<String> {
+fn said_of<R: Runtime + AllocGlobal>(rt: &R, name: &str) -> Result<String> {
     let alloc = rt.alloc();
     let spec = fs::read(rt, format!(in alloc; "specs/{name}.spec")?.as_str())?;
-    match answer_of(rt, alloc, spec.as_slice(), LIMIT) {
+    match answer_of(alloc, spec.as_slice(), LIMIT) {
         Ok(answer) => Ok(answer.text),
         Err(fault) => Ok(format!(in alloc; "{fault}\n")?),
     }
 }
 
 /// Whether an example prints its text.
-fn prints_its_text<R: Runtime + AllocGlobal + Wait>(rt: &R, name: &str) -> Result<bool> {
+fn prints_its_text<R: Runtime + AllocGlobal>(rt: &R, name: &str) -> Result<bool> {
     let alloc = rt.alloc();
     let expected = text_or_none(rt, format!(in alloc; "expected/{name}.out")?.as_str())?;
     let said = said_of(rt, name)?;
@@ -58,7 +57,7 @@ fn prints_its_text<R: Runtime + AllocGlobal + Wait>(rt: &R, name: &str) -> Resul
     Ok(false)
 }
 
-fn run<R: Runtime + AllocGlobal + Wait>(rt: &R) -> Result<bool> {
+fn run<R: Runtime + AllocGlobal>(rt: &R) -> Result<bool> {
     let mut all = true;
     for name in &names_in(rt, "specs")? {
         if !prints_its_text(rt, name.as_str())? {

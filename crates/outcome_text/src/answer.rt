@@ -5,7 +5,6 @@ use crate::page::text_of;
 use permutations::{RunFault, read_file};
 use run_outcomes::outcomes_of;
 use std::alloc::Global;
-use std::sync::Wait;
 
 /// What is printed, and whether each outcome is that of a serial order, as far as can be told.
 #[derive(Drop)]
@@ -15,14 +14,9 @@ pub struct Answer {
 }
 
 /// Runs the permutations of the spec file that these bytes are, up to so many, and says what can happen.
-pub fn answer_of<R: Wait>(
-    rt: &R,
-    alloc: Global,
-    bytes: &[u8],
-    limit: u64,
-) -> Result<Answer, RunFault> {
+pub fn answer_of(alloc: Global, bytes: &[u8], limit: u64) -> Result<Answer, RunFault> {
     let file = read_file(alloc, bytes)?;
-    let outcomes = outcomes_of(rt, alloc, &file.spec, &file.blocks, limit)?;
+    let outcomes = outcomes_of(alloc, &file.spec, &file.blocks, limit)?;
     let text = text_of(alloc, &file.spec, &outcomes)?;
     let serial = not_serial(&outcomes) == 0;
     Ok(Answer { text, serial })

@@ -9,7 +9,6 @@ use outcome_text::{Answer, answer_of};
 use permutations::RunFault;
 use std::process::ExitCode;
 use std::rt::Runtime;
-use std::sync::Wait;
 use std::{env, io};
 use words::{Request, USAGE, request_of};
 
@@ -20,18 +19,15 @@ const WORDS_REFUSED: u8 = 2;
 const NOT_SERIAL: u8 = 4;
 
 /// Reads the file, and says what can happen in it.
-fn read_and_answer<R: Runtime + AllocGlobal + Wait>(
-    rt: &R,
-    limit: u64,
-) -> Result<Answer, RunFault> {
+fn read_and_answer<R: Runtime + AllocGlobal>(rt: &R, limit: u64) -> Result<Answer, RunFault> {
     let alloc = rt.alloc();
     let mut input = FromStd::new(rt.reader());
     let bytes = read_all(alloc, &mut input, LONGEST_FILE + 1)?;
-    answer_of(rt, alloc, bytes.as_slice(), limit)
+    answer_of(alloc, bytes.as_slice(), limit)
 }
 
 /// Prints what can happen, and gives the exit status.
-fn run<R: Runtime + AllocGlobal + Wait>(rt: &R, request: Request) -> io::Result<u8> {
+fn run<R: Runtime + AllocGlobal>(rt: &R, request: Request) -> io::Result<u8> {
     match read_and_answer(rt, request.limit) {
         Ok(answer) => {
             let text = answer.text.as_str();

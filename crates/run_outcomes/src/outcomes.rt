@@ -23,7 +23,6 @@ use session_machine::HistItem;
 use spec_parser::{Entry, Spec};
 use sql_blocks::Block;
 use std::alloc::Global;
-use std::sync::Wait;
 
 /// The verdict on an outcome, and the serial orders beside which it was held.
 #[derive(Drop)]
@@ -91,8 +90,7 @@ fn count_history<'t>(
 }
 
 /// Runs a permutation, and counts it.
-fn count_one<'t, R: Wait>(
-    rt: &R,
+fn count_one<'t>(
     alloc: Global,
     spec: &Spec<'_>,
     blocks: &[Block<'t>],
@@ -104,7 +102,7 @@ fn count_one<'t, R: Wait>(
     requires room { HasRoom (counts_view counted.old) }
     ensures { OnOk result ((fate : Fate) × ComesTo (spec_view spec.now) (blocks_of blocks.now) (map string_bytes names.now) (map entry_view entries.now) fate × IsOneMore (counts_view counted.old) (counts_view counted.new) fate) }
 {
-    let engine = play(rt, alloc, spec, blocks, entries)?;
+    let engine = play(alloc, spec, blocks, entries)?;
     let answer = count_history(
         alloc,
         spec,
@@ -120,8 +118,7 @@ fn count_one<'t, R: Wait>(
 }
 
 /// Runs the permutations of a spec, up to so many, and counts them.
-fn count_all<'t, R: Wait>(
-    rt: &R,
+fn count_all<'t>(
     alloc: Global,
     spec: &Spec<'_>,
     blocks: &[Block<'t>],
@@ -140,7 +137,6 @@ fn count_all<'t, R: Wait>(
         }
         number += 1;
         count_one(
-            rt,
             alloc,
             spec,
             blocks,
@@ -153,8 +149,7 @@ fn count_all<'t, R: Wait>(
 }
 
 /// The verdict on an outcome.
-fn judge<'t, R: Wait>(
-    rt: &R,
+fn judge<'t>(
     alloc: Global,
     spec: &Spec<'_>,
     blocks: &[Block<'t>],
@@ -164,23 +159,13 @@ fn judge<'t, R: Wait>(
     requires spec { Stands (spec_view spec.now) }
 {
     let lists = transactions_of(alloc, spec, blocks, &group.nearest)?;
-    let orders = serial_orders(rt, alloc, spec, blocks, names, &lists)?;
-    let verdict = verdict_of(
-        rt,
-        alloc,
-        spec,
-        blocks,
-        names,
-        &group.outcome,
-        &orders,
-        &lists,
-    )?;
+    let orders = serial_orders(alloc, spec, blocks, names, &lists)?;
+    let verdict = verdict_of(alloc, spec, blocks, names, &group.outcome, &orders, &lists)?;
     Ok(Judged { verdict, orders })
 }
 
 /// The verdicts on all outcomes, in their order.
-fn judge_all<'t, R: Wait>(
-    rt: &R,
+fn judge_all<'t>(
     alloc: Global,
     spec: &Spec<'_>,
     blocks: &[Block<'t>],
@@ -192,15 +177,14 @@ fn judge_all<'t, R: Wait>(
 {
     let mut all = Vec::new(alloc);
     for group in groups {
-        all.push(judge(rt, alloc, spec, blocks, names, group)?)?;
+        all.push(judge(alloc, spec, blocks, names, group)?)?;
     }
     Ok(all)
 }
 
 /// Runs the permutations of a spec, up to so many, and says what can happen. After `limit` permutations, with one more there, the
 /// run ends; so it does after a setup that fails or waits.
-pub fn outcomes_of<'t, R: Wait>(
-    rt: &R,
+pub fn outcomes_of<'t>(
     alloc: Global,
     spec: &Spec<'_>,
     blocks: &[Block<'t>],
@@ -211,8 +195,8 @@ pub fn outcomes_of<'t, R: Wait>(
     ensures judged { IfOk result (λ o. length o.judged.items ≡ length o.counted.groups.items) }
 {
     let tables = tables_made(alloc, spec, blocks)?;
-    let (permutations, counted) = count_all(rt, alloc, spec, blocks, tables.as_slice(), limit)?;
-    let judged = judge_all(rt, alloc, spec, blocks, &tables, counted.groups.as_slice())?;
+    let (permutations, counted) = count_all(alloc, spec, blocks, tables.as_slice(), limit)?;
+    let judged = judge_all(alloc, spec, blocks, &tables, counted.groups.as_slice())?;
     Ok(Outcomes {
         tables,
         permutations,

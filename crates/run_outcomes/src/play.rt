@@ -18,11 +18,9 @@ use session_threads::ThreadFault;
 use spec_parser::{Entry, Spec};
 use sql_blocks::Block;
 use std::alloc::Global;
-use std::sync::Wait;
 
 /// The history of a permutation, as the engine that has it.
-pub fn play<'a, 't, R: Wait>(
-    rt: &R,
+pub fn play<'a, 't>(
     alloc: Global,
     spec: &Spec<'_>,
     blocks: &'a [Block<'t>],
@@ -31,7 +29,7 @@ pub fn play<'a, 't, R: Wait>(
     requires { Stands (spec_view spec.now) }
     ensures regular { IfOk result (λ e. IsRegular (spec_view spec.now) (blocks_of blocks.now) (map entry_view entries.now) e.history) }
 {
-    run_alone(rt, alloc, spec, blocks, entries)
+    run_alone(alloc, spec, blocks, entries)
 }
 
 /// Does the event of the item at this place again.

@@ -18,7 +18,6 @@ use session_machine::{HistItem, Outcome};
 use spec_parser::{Entry, Spec};
 use sql_blocks::Block;
 use std::alloc::{AllocError, Global};
-use std::sync::Wait;
 
 /// A serial order of transactions, by their sessions, and its outcome.
 #[derive(Drop)]
@@ -153,8 +152,7 @@ fn outcome_if_serial<'t>(
 }
 
 /// The outcome of these entries, if they run to their end as a serial order.
-fn serial_outcome<'t, R: Wait>(
-    rt: &R,
+fn serial_outcome<'t>(
     alloc: Global,
     spec: &Spec<'_>,
     blocks: &[Block<'t>],
@@ -163,7 +161,7 @@ fn serial_outcome<'t, R: Wait>(
 ) -> Result<Option<RunOutcome<'t>>, RunFault>
     requires { Stands (spec_view spec.now) }
 {
-    let engine = play(rt, alloc, spec, blocks, entries)?;
+    let engine = play(alloc, spec, blocks, entries)?;
     let outcome = outcome_if_serial(alloc, spec, blocks, names, entries, engine.history());
     engine.end();
     outcome
@@ -205,8 +203,7 @@ fn push_if_new<'t>(
 }
 
 /// The serial orders of these transactions, of each outcome the first.
-pub fn serial_orders<'t, R: Wait>(
-    rt: &R,
+pub fn serial_orders<'t>(
     alloc: Global,
     spec: &Spec<'_>,
     blocks: &[Block<'t>],
@@ -222,7 +219,7 @@ pub fn serial_orders<'t, R: Wait>(
     let mut interleavings = Interleavings::new(alloc, &counts)?;
     while interleavings.next(&mut turns)? {
         let entries = entries_in_order(alloc, lists, &turns)?;
-        if let Some(outcome) = serial_outcome(rt, alloc, spec, blocks, names, &entries)? {
+        if let Some(outcome) = serial_outcome(alloc, spec, blocks, names, &entries)? {
             push_if_new(alloc, &mut orders, &turns, outcome)?;
         }
     }

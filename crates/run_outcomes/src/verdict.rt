@@ -11,7 +11,6 @@ use permutations::RunFault;
 use spec_parser::Spec;
 use sql_blocks::Block;
 use std::alloc::{AllocError, Global};
-use std::sync::Wait;
 
 /// What an outcome is as. Orders of transactions are told by their sessions.
 #[derive(Drop)]
@@ -238,8 +237,7 @@ fn first_mixed(
 }
 
 /// The serial order that has the outcome of the transactions that didn't fail.
-fn order_of_rest<'t, R: Wait>(
-    rt: &R,
+fn order_of_rest<'t>(
     alloc: Global,
     spec: &Spec<'_>,
     blocks: &[Block<'t>],
@@ -252,14 +250,13 @@ fn order_of_rest<'t, R: Wait>(
 {
     let kept = all_kept(alloc, spec, outcome, lists)?;
     let left_out = left_out_steps(alloc, spec, outcome, lists)?;
-    let orders = serial_orders(rt, alloc, spec, blocks, names, &kept)?;
+    let orders = serial_orders(alloc, spec, blocks, names, &kept)?;
     let rest = order_without(alloc, &orders, outcome, &left_out)?;
     Ok(rest)
 }
 
 /// The verdict on an outcome that no serial order of all transactions has.
-fn verdict_of_rest<'t, R: Wait>(
-    rt: &R,
+fn verdict_of_rest<'t>(
     alloc: Global,
     spec: &Spec<'_>,
     blocks: &[Block<'t>],
@@ -277,15 +274,14 @@ fn verdict_of_rest<'t, R: Wait>(
     if let Some(untold) = first_mixed(spec, blocks, outcome, lists) {
         return Ok(untold);
     }
-    match order_of_rest(rt, alloc, spec, blocks, names, outcome, lists)? {
+    match order_of_rest(alloc, spec, blocks, names, outcome, lists)? {
         Some(rest) => Ok(Verdict::RestSerial { failed, rest }),
         None => Ok(Verdict::NotSerial),
     }
 }
 
 /// The verdict on an outcome, beside the serial orders of its permutations' transactions.
-pub fn verdict_of<'t, R: Wait>(
-    rt: &R,
+pub fn verdict_of<'t>(
     alloc: Global,
     spec: &Spec<'_>,
     blocks: &[Block<'t>],
@@ -299,6 +295,6 @@ pub fn verdict_of<'t, R: Wait>(
 {
     match order_with(alloc, orders, outcome)? {
         Some(order) => Ok(Verdict::Serial(order)),
-        None => verdict_of_rest(rt, alloc, spec, blocks, names, outcome, lists),
+        None => verdict_of_rest(alloc, spec, blocks, names, outcome, lists),
     }
 }
