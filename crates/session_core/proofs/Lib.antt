@@ -1,7 +1,7 @@
 pub mod BlockLemmas
 pub mod Freed
 pub mod Going
-pub mod Kept
+pub mod Holding
 pub mod Opening
 pub mod Replaying
 pub mod Stated

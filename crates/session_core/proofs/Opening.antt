@@ -8,7 +8,7 @@ use Rattle.session_machine.specs.Engine.{IsLegal}
 use Rattle.session_machine.specs.Sound.{IsSoundMachine, StaysSound}
 use Rattle.session_core.specs.Inner.Kept.{Lists}
 use Rattle.session_core.proofs.Going.{Keeps}
-use Rattle.session_core.proofs.Kept.{kept_opening}
+use Rattle.session_core.proofs.Holding.{kept_opening}
 
 pub opens : StaysSound → (blocks : Blocks) (mode : Mode) (count : ℕ) (m : Machine) (items : List HistItem) (kept : Lists) → count ≤ MOST_SESSIONS → m ≡ opening count → items ≡ []
     → kept ≡ replicate (count + 1) None → IsLegal blocks count mode items × Keeps blocks count mode items m kept

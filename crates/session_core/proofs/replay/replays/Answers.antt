@@ -3,7 +3,7 @@ use Rattle.std.proofs.lemmas.List.{drop_all}
 use Rattle.sql_blocks.specs.Blocks.{blocks_of}
 use Rattle.session_machine.specs.Machine.{opening}
 use Rattle.session_core.proofs.Replaying.{LeadsOn, legal_step, legal_not, from_place, reaches_on}
-use Rattle.session_core.proofs.Kept.{kept_opening}
+use Rattle.session_core.proofs.Holding.{kept_opening}
 use Rattle.session_core.proofs.replay.replays.Goals as goal
 
 pub loop-item-init : goal.loop-item-init

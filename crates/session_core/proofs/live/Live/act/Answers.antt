@@ -1,5 +1,5 @@
 use Rattle.sql_blocks.specs.Blocks.{blocks_of}
-use Rattle.session_core.proofs.Kept.{kept_launched, kept_left}
+use Rattle.session_core.proofs.Holding.{kept_launched, kept_left}
 use Rattle.session_core.proofs.live.Live.act.Goals as goal
 
 pub returns-in-Launch-clause-kept : goal.returns-in-Launch-clause-kept

@@ -5,7 +5,7 @@ use Rattle.sql_blocks.specs.Blocks.{blocks_of}
 use Rattle.sql_trees.specs.Statements.{stmt_of}
 use Rattle.session_machine.specs.declared.session.Session.{Session}
 use Rattle.wait_laws.specs.Laws.{stmt_at}
-use Rattle.session_core.proofs.Kept.{kept_step}
+use Rattle.session_core.proofs.Holding.{kept_step}
 use Rattle.session_core.proofs.live.Live.step.Goals as goal
 
 pub run-requires-clause-kept : goal.run-requires-clause-kept
