@@ -14,6 +14,17 @@ STEP = 60
 URGENT = 40
 
 
+# The programs of this repository that users call.
+PROGRAMS = ("isolationtester", "timeline", "outcomes")
+
+
+def note_what_it_is_of(program):
+    """Writes beside a built program which folders it was built from: tools/built.sh looks there to see whether it is that of the text."""
+    rooms = [f"crates/{crate.name}/{room}" for crate in [*program.below(), program] for room in rtlib.PARTS]
+    with open(f"{program.folder}/out/built_from", "w", encoding="utf-8") as it:
+        it.write("".join(f"{room}\n" for room in rooms if os.path.isdir(f"{TOP}/{room}")))
+
+
 def seconds():
     """Returns how many processor seconds a proof of each crate took when it was measured. What is built first goes by it, and nothing else."""
     text = rtlib.text_of(f"{TOP}/tools/seconds.txt") or ""

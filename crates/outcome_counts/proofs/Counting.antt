@@ -15,7 +15,7 @@ use Rattle.session_machine.specs.declared.reply.Outcome.TheVariants.{Launched, D
 use Rattle.outcome_counts.specs.declared.outcome.RunOutcome.{RunOutcome}
 use Rattle.outcome_counts.specs.Outcomes.{SameAnswer, SameOutcome, SameTable}
 use Rattle.outcome_counts.specs.Counts.{Fate, blocked, waiting, whole, Place, at_blocked, at_waiting, at_outcome, Counts, Belongs, AllBelong, is_blocked, is_waiting, is_outcome, IsCounted, HasRoom}
-use Rattle.outcome_counts.specs.Adding.{IsAt, IsNew, IsAdded, known, new, StayCounted}
+use Rattle.outcome_counts.specs.Code.Adding.{IsAt, IsNew, IsAdded, known, new, StayCounted}
 use Rattle.outcome_counts.proofs.Multisets.{adds_none}
 
 -- what a list holds where another one was read

@@ -2,7 +2,7 @@
 
 ghost use Rattle.std.specs.Prelude.{◌≡◌, ◌+◌, ◌<◌, ◌^◌, ◌∷◌, ◌++◌, [], IfOk, MatchOption, OnOk, length, slice_index, slice_set};
 ghost use Rattle.outcome_counts.specs.Counts.{HasRoom, counts_view};
-ghost use Rattle.outcome_counts.specs.Adding.{IsAdded, IsAt, IsNew, outcomes_in};
+ghost use Rattle.outcome_counts.specs.Code.Adding.{IsAdded, IsAt, IsNew, outcomes_in};
 
 use crate::outcome::RunOutcome;
 use spec_parser::Entry;

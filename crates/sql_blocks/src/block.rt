@@ -29,6 +29,7 @@ impl<'a> Model for Block<'a> {
     ghost use Rattle.std.specs.Coded.{codes};
     ghost use Rattle.std.specs.List.{list_all};
     ghost use Rattle.std.specs.Prelude.{◌≡◌, ◌≤◌, true, [], map, vec_len};
+    ghost use Rattle.iso_lexer.specs.declared.limits.TheConstants.{MAX_STMTS};
     ghost use mir.Syntax.{named};
     ghost use Rattle.sql_trees.specs.contracts.expr.Expr as expr;
     ghost use Rattle.sql_trees.specs.Statements.{stmt_of};

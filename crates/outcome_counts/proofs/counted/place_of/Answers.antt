@@ -2,7 +2,7 @@ use Rattle.std.proofs.Common.{ℕ, ◌∙◌, sym, subst, get_or, below_more}
 use Rattle.std.proofs.lemmas.Bool.{false≢true}
 use Rattle.outcome_counts.specs.declared.counted.Group.{Group}
 use Rattle.outcome_counts.specs.Outcomes.{SameOutcome}
-use Rattle.outcome_counts.specs.Adding.{outcomes_in}
+use Rattle.outcome_counts.specs.Code.Adding.{outcomes_in}
 use Rattle.outcome_counts.proofs.Counting.{read_map}
 use Rattle.outcome_counts.proofs.counted.place_of.Goals as goal
 

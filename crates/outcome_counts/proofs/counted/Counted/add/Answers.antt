@@ -1,7 +1,7 @@
 use Rattle.std.proofs.Common.{arith, List, subst}
 use Rattle.std.proofs.lemmas.List.{length-map}
 use Rattle.outcome_counts.specs.declared.counted.Group.{Group}
-use Rattle.outcome_counts.specs.Adding.{IsAt, IsNew, known, new, outcomes_in}
+use Rattle.outcome_counts.specs.Code.Adding.{IsAt, IsNew, known, new, outcomes_in}
 use Rattle.outcome_counts.proofs.counted.Counted.add.Goals as goal
 
 pub add_known-requires-clause-within : goal.add_known-requires-clause-within

@@ -1,4 +1,4 @@
-use Rattle.std.proofs.Common.{◌+◌, ◌-◌, ◌*◌, length}
+use Rattle.std.proofs.Common.{suc, ◌+◌, ◌-◌, ◌*◌, length}
 use Rattle.iso_lexer.specs.declared.limits.TheConstants.{MAX_DEPTH}
 use Rattle.sql_trees.specs.Tokens.{tok_views}
 use Rattle.sql_expressions.specs.Reading.{operators}
@@ -27,7 +27,7 @@ invariant-chain-loop-operator l =
     Goes (operand_at l.self.text_len (inside l.self.text_len l.room) l.level) (operators l.level) (found l.left l.rest) (chain_at l.self.text_len (inside l.self.text_len l.room) l.level (tok_views l.fn.tokens))
 
 abbrev pub decreases-chain-loop-operator : goal.decreases-chain-loop-operator
-decreases-chain-loop-operator l = (suc MAX_DEPTH) - l.left.depth
+decreases-chain-loop-operator l = suc MAX_DEPTH - l.left.depth
 
 abbrev pub decreases-is : goal.decreases-is
 decreases-is l = l.room * 32 + 16
