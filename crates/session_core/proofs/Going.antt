@@ -46,12 +46,14 @@ pub left : (blocks : Blocks) (count : ℕ) (mode : Mode) (m new : Machine) (item
     → answer ≡ Err refusal → IsLegal blocks count mode items × (spent ≡ false → Keeps blocks count mode items new now)
 left blocks count mode m new items event answer refusal spent kept now keeps list h is =
     let r = next blocks mode m event in
-    let same = answered_err m new r refusal (as_known m new r answer (Err refusal) h is) in
-    (keeps.0, λ fresh.
-    let k = keeps.1 fresh in
-    let moved : IsSoundMachine new × (new.events ≡ length items) × Run blocks mode (opening count) items new =
-    subst (λ (x : Machine). IsSoundMachine x × (x.events ≡ length items) × Run blocks mode (opening count) items x) (sym same.1) (k.0, k.1, k.2) in
-    (moved.0, moved.1, moved.2, list fresh))
+    let same = answered_err m new r refusal (as_known m new r answer (Err refusal) h is) in (
+      keeps.0,
+      λ fresh.
+          let k = keeps.1 fresh in
+          let moved : IsSoundMachine new × (new.events ≡ length items) × Run blocks mode (opening count) items new =
+          subst (λ (x : Machine). IsSoundMachine x × (x.events ≡ length items) × Run blocks mode (opening count) items x) (sym same.1) (k.0, k.1, k.2) in
+          (moved.0, moved.1, moved.2, list fresh),
+    )
 
 -- what is shown to a session that is there
 pub shows : (m : Machine) (session : ℕ) (name : List ℕ) (s : Session) (rows : List (List Value)) → slice_get m.sessions session ≡ Some s → visible_to m.db s name ≡ Some rows

@@ -16,7 +16,7 @@ run-requires-clause-kept g c s targets at its =
     c.requires.kept.its c.args.session s targets at its (stmt_of c.in-Ok.due.at.stmt.now)
     (ap (stmt_at given) (ap (λ (x : Session). x.place) one ∙ ok.2) ∙ c.in-Ok.ensures.tree)
 
-pub returns-in_ok-run-clause-kept : goal.returns-in_ok-run-clause-kept
-returns-in_ok-run-clause-kept g c count reached =
+pub returns-in_ok-run-in-Ok-clause-kept : goal.returns-in_ok-run-in-Ok-clause-kept
+returns-in_ok-run-in-Ok-clause-kept g c count reached =
     kept_step (blocks_of c.args.blocks.now) c.args.mode count c.args.self.now c.run.new.self c.args.session c.in-Ok.due.place c.in-Ok.due.at.count (stmt_of c.in-Ok.due.at.stmt.now)
-    c.in_ok-run.result c.args.kept.now c.run.new.kept reached c.requires.sound c.requires.kept c.in-Ok.ensures.ok c.in-Ok.ensures.tree c.in_ok-run.ensures.reply c.in_ok-run.ensures.kept
+    _ c.args.kept.now c.run.new.kept reached c.requires.sound c.requires.kept c.in-Ok.ensures.ok c.in-Ok.ensures.tree c.in_ok-run-in-Ok.ensures.reply c.in_ok-run-in-Ok.ensures.kept
