@@ -1,5 +1,5 @@
 -- The targets that sessions keep are those of the present state, after each event.
-use Rattle.std.proofs.Common.{◌≡◌, refl, sym, ◌∙◌, ap, subst, ⊎_elim, ◌⊎◌, inl, inr, ℕ, ◌+◌, ◌<◌, ◌≤◌, zero, suc, List, [], ◌∷◌, length, length-set, get_or, set, replicate, arith}
+use Rattle.std.proofs.Common.{◌≡◌, refl, sym, ◌∙◌, ap, subst, ⊎_elim, ◌⊎◌, inl, inr, ℕ, ◌+◌, ◌<◌, ◌≤◌, List, [], ◌∷◌, length, length-set, get_or, set, replicate, arith}
 use Rattle.std.specs.Prelude.{Option, Some, None, IfSome, false, slice_get, Result, Ok, Err}
 use Rattle.std.specs.Global.{Vec}
 use Rattle.std.specs.Option.{option_map_or}
@@ -24,19 +24,19 @@ use Rattle.session_machine.specs.declared.fault.Refusal.{Refusal}
 use Rattle.session_machine.specs.declared.fault.Refusal.TheVariants.{Busy, NotYourTurn, BlockNotAllowed}
 use Rattle.session_machine.specs.Tables.{Database, Table}
 use Rattle.session_machine.specs.Statements.{Effect, Surroundings}
-use Rattle.session_machine.specs.Targets.{going_on, taken_targets}
+use Rattle.session_machine.specs.Targets.{going_on}
 use Rattle.session_machine.specs.Machine.{Machine, Blocks, Next, after_stmt, at_rest, next, opening, session_of, stmts_of}
 use Rattle.session_machine.specs.Running.{run_stmt}
 use Rattle.session_machine.specs.Waits.{is_still_blocked}
-use Rattle.session_machine.specs.Inner.Steps.{around, first_place, launch_of, leave_of, left_behind}
+use Rattle.session_machine.specs.Inner.Steps.{around, first_place, launch_of, leave_of}
 use Rattle.session_machine.specs.Sound.{IsSoundMachine}
 use Rattle.session_statements.specs.Targets.{AreKept, targets_of}
 use Rattle.session_core.specs.Inner.Answers.{engine_answer}
-use Rattle.session_core.specs.Inner.Kept.{AllKept, KeepsOn, KeptAt, Lists}
+use Rattle.session_core.specs.Inner.Kept.{AllKept, KeepsOn, Lists}
 use Rattle.session_core.proofs.Stepping.{within_at}
 use Rattle.session_core.proofs.Replaying.{answered_err, answered_ok}
 use Rattle.session_laws.proofs.Lists.{slice_get-set_other, slice_get-set_same}
-use Rattle.wait_laws.specs.Laws.{FindsTheSame, IsAsBegun, Reaches, SameTargets, stmt_at}
+use Rattle.wait_laws.specs.Laws.{FindsTheSame, Reaches, SameTargets, stmt_at}
 use Rattle.wait_laws.proofs.Begun.{begun_there, did_next, others_stay, rest_is, waits_go_on_as_begun}
 use Rattle.wait_laws.proofs.Events.{After, after, ok_else, ok_is, session_there}
 use Rattle.wait_laws.proofs.Resumed.{statements_stay_as_begun}

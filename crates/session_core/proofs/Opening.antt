@@ -1,9 +1,9 @@
 -- A machine in which nothing has happened is one that an engine may have.
-use Rattle.std.proofs.Common.{◌≡◌, ℕ, ◌+◌, ◌≤◌, List, [], length, replicate, None, refl, sym, ap, subst}
+use Rattle.std.proofs.Common.{◌≡◌, ℕ, ◌+◌, ◌≤◌, List, [], replicate, None, refl, sym, ap, subst}
 use Rattle.iso_lexer.specs.declared.limits.TheConstants.{MOST_SESSIONS}
 use Rattle.session_machine.specs.declared.event.Mode.{Mode}
 use Rattle.session_machine.specs.declared.reply.HistItem.{HistItem}
-use Rattle.session_machine.specs.Machine.{Blocks, Machine, opening, Run}
+use Rattle.session_machine.specs.Machine.{Blocks, Machine, opening}
 use Rattle.session_machine.specs.Engine.{IsLegal}
 use Rattle.session_machine.specs.Sound.{IsSoundMachine, StaysSound}
 use Rattle.session_core.specs.Inner.Kept.{Lists}

@@ -1,5 +1,4 @@
 use Rattle.std.proofs.Common.{◌≡◌, ◌∙◌, sym, ap}
-use Rattle.std.specs.Prelude.{Some}
 use Rattle.std.proofs.lemmas.Option.{same_Some}
 use Rattle.sql_blocks.specs.Blocks.{blocks_of}
 use Rattle.sql_trees.specs.Statements.{stmt_of}
