@@ -1,6 +1,7 @@
 pub mod BlockLemmas
 pub mod Freed
 pub mod Going
+pub mod Holding
 pub mod Opening
 pub mod Replaying
 pub mod Stated

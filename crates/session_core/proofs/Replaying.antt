@@ -6,8 +6,9 @@ use Rattle.session_machine.specs.declared.event.Mode.{Mode}
 use Rattle.session_machine.specs.declared.reply.Reply.{Reply}
 use Rattle.session_machine.specs.declared.reply.HistItem.{HistItem}
 use Rattle.session_machine.specs.declared.fault.Refusal.{Refusal}
-use Rattle.session_machine.specs.Machine.{Machine, Blocks, Next, next, Run}
+use Rattle.session_machine.specs.Machine.{Machine, Blocks, Next, next, opening, Run}
 use Rattle.session_machine.specs.Engine.{Follows}
+use Rattle.wait_laws.specs.Laws.{Reaches}
 use Rattle.session_laws.proofs.Replaying.{run_more, one_follows}
 use Rattle.session_core.specs.Inner.Answers.{Answered, engine_answer}
 use Rattle.session_machine.specs.Sound.{IsSoundMachine, StaysSound}
@@ -48,6 +49,10 @@ goes_on law blocks mode start old new history after event reply sound count run 
     let f : next blocks mode old event ≡ Ok n = answered_ok old new (next blocks mode old event) reply h in
     let s = law.goes_on blocks mode old event n sound f in
     (s.0, s.1 ∙ (ap (λ k. k + 1) count ∙ (sym (length-append history (item ∷ [])) ∙ ap length (sym e))), subst (λ items. Run blocks mode start items new) (sym e) (run_more blocks mode start old new history item run f))
+
+-- a run goes on by one event
+pub reaches_on : (blocks : Blocks) (mode : Mode) (count : ℕ) (m new : Machine) (item : HistItem) → Reaches blocks mode count m → Follows blocks mode m item new → Reaches blocks mode count new
+reaches_on blocks mode count m new item reached follows = (reached.0 ++ item ∷ [], run_more blocks mode (opening count) m new reached.0 item reached.1 follows)
 
 -- the items lead on to some state
 abbrev pub LeadsOn : Blocks → Mode → Machine → List HistItem → Type 0

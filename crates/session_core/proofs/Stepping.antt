@@ -110,7 +110,7 @@ left_open law m i s place stmt d t sound at stands free ran is =
     let there : IsSoundMachine (with_session m d.db i kept.0) = subst IsSoundMachine kept.1 after.0 in
     opened_at (with_session m d.db i kept.0) i kept.0 t there (get-set_same m.sessions i s kept.0 at) (kept.2 ∙ is)
 
-set_twice : {A : Type 0} (xs : List A) (i : ℕ) (x y : A) → set (set xs i x) i y ≡ set xs i y
+pub set_twice : {A : Type 0} (xs : List A) (i : ℕ) (x y : A) → set (set xs i x) i y ≡ set xs i y
 set_twice [] zero x y = refl
 set_twice [] (suc i) x y = refl
 set_twice (z ∷ xs) zero x y = refl

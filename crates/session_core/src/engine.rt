@@ -10,6 +10,7 @@ ghost use Rattle.session_machine.specs.Machine.{opening, Run};
 ghost use Rattle.session_machine.specs.Engine.{EngineAnswered, IsDue, IsLegal, engine_after, fault_of, is_quiet_in, opened, spent_engine, turn_of, visible_in};
 ghost use Rattle.session_core.specs.Engines.{IsOf};
 
+use crate::kept::Kept;
 use crate::live::Live;
 use row_versions::Versions;
 use session_laws::laws::stays_sound;
@@ -27,6 +28,7 @@ pub struct EngineState<'a, 't, V: Versions> {
     count: u32,
     mode: Mode,
     live: Live<'a, 't, V>,
+    kept: Kept,
     history: Vec<HistItem<'t>>,
     /// Memory was refused in the middle of an event: nothing is known of the machine any more.
     spent: bool,
@@ -38,6 +40,7 @@ impl<'a, 't, V: Versions> Model for EngineState<'a, 't, V> {
     ghost use Rattle.session_machine.specs.Machine.{opening, Run};
     ghost use Rattle.session_machine.specs.Engine.{Engine, IsLegal};
     ghost use Rattle.session_machine.specs.Sound.{IsSoundMachine};
+    ghost use Rattle.session_core.specs.Inner.Kept.{AllKept};
     ghost use Rattle.session_machine.specs.Inner.TreeCodes.{tree_code};
     ghost use Rattle.std.specs.Coded.{codes};
 
@@ -55,7 +58,7 @@ impl<'a, 't, V: Versions> Model for EngineState<'a, 't, V> {
 
     ghost invariant = { λ e. IsLegal (blocks_of e.blocks.now) e.count e.mode e.history.items
         × (e.spent ≡ false → IsSoundMachine e.live × (e.live.events ≡ length e.history.items)
-        × Run (blocks_of e.blocks.now) e.mode (opening e.count) e.history.items e.live) };
+        × Run (blocks_of e.blocks.now) e.mode (opening e.count) e.history.items e.live × AllKept (blocks_of e.blocks.now) e.live e.kept) };
 }
 
 /// Adds an item to the history, and gives its reply.
@@ -102,11 +105,13 @@ impl<'a, 't, V: Versions> EngineState<'a, 't, V> {
     {
         stays_sound();
         let live = Live::new(alloc, count, store)?;
+        let kept = Kept::none(alloc, count)?;
         Ok(EngineState {
             blocks,
             count,
             mode,
             live,
+            kept,
             history: Vec::new(alloc),
             spent: false,
         })
@@ -124,7 +129,7 @@ impl<'a, 't, V: Versions> EngineState<'a, 't, V> {
         if self.spent {
             return Err(EngineFault::Spent);
         }
-        match self.live.act(self.blocks, self.mode, event) {
+        match self.live.act(&mut self.kept, self.blocks, self.mode, event) {
             Ok(Ok(reply)) => match self.history.push(HistItem { event, reply }) {
                 Ok(()) => Ok(()),
                 Err(_) => {
@@ -150,7 +155,7 @@ impl<'a, 't, V: Versions> EngineState<'a, 't, V> {
         if self.spent {
             return Err(EngineFault::Spent);
         }
-        let answer = match self.live.act(self.blocks, self.mode, event) {
+        let answer = match self.live.act(&mut self.kept, self.blocks, self.mode, event) {
             Ok(answer) => answer,
             Err(_) => {
                 self.spent = true;

@@ -22,6 +22,7 @@
 
 mod block_stmts;
 mod engine;
+mod kept;
 mod launch;
 mod laws;
 mod leave;

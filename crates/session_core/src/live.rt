@@ -1,5 +1,5 @@
 //! The machine over a store.
-ghost use Rattle.std.specs.Prelude.{◌≡◌, ◌+◌, ◌<◌, ◌≤◌, ◌^◌, List, IfOk, IfErr, OnErr, Ok, Err, Some, option_map, length, slice_get};
+ghost use Rattle.std.specs.Prelude.{◌≡◌, ◌+◌, ◌<◌, ◌≤◌, ◌^◌, ℕ, List, IfOk, IfErr, OnErr, OnOk, Ok, Err, Some, option_map, length, slice_get};
 ghost use Rattle.std.specs.Global.{Vec as VecFacts};
 ghost use Rattle.iso_lexer.specs.declared.limits.TheConstants.{MOST_SESSIONS};
 ghost use Rattle.sql_blocks.specs.Blocks.{blocks_of};
@@ -8,8 +8,11 @@ ghost use Rattle.row_versions.specs.Log.{empty_content};
 ghost use Rattle.session_machine.specs.Sound.{IsSoundMachine};
 ghost use Rattle.session_machine.specs.Machine.{next, opening, visible, with_session};
 ghost use Rattle.session_core.specs.Inner.Answers.{engine_answer};
+ghost use Rattle.session_core.specs.Inner.Kept.{AllKept};
 ghost use Rattle.session_machine.specs.Engine.{Goes};
+ghost use Rattle.wait_laws.specs.Laws.{Reaches};
 
+use crate::kept::Kept;
 use iso_lexer::Name;
 use row_versions::Versions;
 use session_database::Database;
@@ -63,21 +66,24 @@ impl<'a, 't, V: Versions> Live<'a, 't, V> {
         self.events += 1;
     }
 
-    /// Does an event.
+    /// Does an event, and has the sessions that wait keep their targets.
     pub fn act(
         &mut self,
+        kept: &mut Kept,
         blocks: &'a [Block<'t>],
         mode: Mode,
         event: Event,
     ) -> Result<Result<Reply<'t>, Refusal>, AllocError>
         requires sound { IsSoundMachine self.old }
         requires room { self.old.events + 1 < 2 ^ 64 }
+        requires kept { AllKept (blocks_of blocks.now) self.old kept.old }
         ensures answer { IfOk result (λ answer. engine_answer self.old (next (blocks_of blocks.now) mode self.old event) ≡ record { machine = self.new; answer = answer }) }
+        ensures kept { (count : ℕ) → Reaches (blocks_of blocks.now) mode count self.old → OnOk result (AllKept (blocks_of blocks.now) self.new kept.new) }
         ensures due { OnErr result (Goes (blocks_of blocks.now) mode self.old event) }
     {
         match event {
             Event::Launch { session, block } => Ok(self.launch(blocks, mode, session, block)),
-            Event::Step { session } => self.step(blocks, mode, session),
+            Event::Step { session } => self.step(kept, blocks, mode, session),
             Event::Leave { session } => Ok(self.leave(mode, session)),
         }
     }

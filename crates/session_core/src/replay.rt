@@ -1,11 +1,14 @@
 //! Whether a history is one of the machine's.
-ghost use Rattle.std.specs.Prelude.{◌≡◌, ◌↔◌, ◌+◌, ◌<◌, ◌≤◌, ◌^◌, ℕ, IsTrue, IfOk, true, false, length};
+ghost use Rattle.std.specs.Prelude.{◌≡◌, ◌↔◌, ◌+◌, ◌<◌, ◌≤◌, ◌^◌, ℕ, IsTrue, IfOk, OnOk, true, false, length};
 ghost use Rattle.iso_lexer.specs.declared.limits.TheConstants.{MOST_SESSIONS};
 ghost use Rattle.sql_blocks.specs.Blocks.{blocks_of};
 ghost use Rattle.session_machine.specs.Sound.{IsSoundMachine};
 ghost use Rattle.session_machine.specs.Machine.{Machine, opening, Run};
 ghost use Rattle.session_machine.specs.Engine.{Follows, IsLegal};
+ghost use Rattle.session_core.specs.Inner.Kept.{AllKept};
+ghost use Rattle.wait_laws.specs.Laws.{Reaches};
 
+use crate::kept::Kept;
 use crate::live::Live;
 use chain_store::ChainStore;
 use row_versions::Versions;
@@ -17,16 +20,19 @@ use std::alloc::{AllocError, Global};
 /// Does an item's event, and says whether it was answered as the item says.
 fn agrees<'a, 't, V: Versions>(
     live: &mut Live<'a, 't, V>,
+    kept: &mut Kept,
     blocks: &'a [Block<'t>],
     mode: Mode,
     item: &HistItem<'_>,
 ) -> Result<bool, AllocError>
     requires sound { IsSoundMachine live.old }
     requires room { live.old.events + 1 < 2 ^ 64 }
+    requires kept { AllKept (blocks_of blocks.now) live.old kept.old }
     ensures yes { IfOk result (λ agrees. agrees ≡ true → Follows (blocks_of blocks.now) mode live.old item.now live.new) }
     ensures no { IfOk result (λ agrees. agrees ≡ false → (after : Machine) → Follows (blocks_of blocks.now) mode live.old item.now after → ⊥) }
+    ensures kept { (count : ℕ) → Reaches (blocks_of blocks.now) mode count live.old → OnOk result (AllKept (blocks_of blocks.now) live.new kept.new) }
 {
-    match live.act(blocks, mode, item.event)? {
+    match live.act(kept, blocks, mode, item.event)? {
         Ok(reply) => Ok(reply.same(&item.reply)),
         Err(_) => Ok(false),
     }
@@ -46,8 +52,9 @@ pub fn replays<'a, 't>(
 {
     stays_sound();
     let mut live = Live::new(alloc, count, ChainStore::new(alloc))?;
+    let mut kept = Kept::none(alloc, count)?;
     for item in history {
-        if !agrees(&mut live, blocks, mode, item)? {
+        if !agrees(&mut live, &mut kept, blocks, mode, item)? {
             return Ok(false);
         }
     }

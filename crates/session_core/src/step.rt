@@ -1,5 +1,5 @@
 //! A session's statement begins, or goes on where it waits.
-ghost use Rattle.std.specs.Prelude.{◌≡◌, ◌+◌, ◌<◌, ◌^◌, ℕ, false, IfOk, IfErr, IfSome, OnErr, Some, None, Ok, Err, is_none, length, slice_get, slice_set};
+ghost use Rattle.std.specs.Prelude.{◌≡◌, ◌+◌, ◌<◌, ◌^◌, ℕ, false, IfOk, IfErr, IfSome, OnErr, OnOk, Some, None, Ok, Err, is_none, length, slice_get, slice_set};
 ghost use Rattle.sql_blocks.specs.Blocks.{blocks_of};
 ghost use Rattle.row_versions.specs.Log.{IsOpen};
 ghost use Rattle.sql_trees.specs.Statements.{stmt_of};
@@ -8,12 +8,15 @@ ghost use Rattle.session_machine.specs.declared.session.Session.{Session as Sess
 ghost use Rattle.session_machine.specs.Running.{run_stmt};
 ghost use Rattle.session_machine.specs.Sound.{IsSoundMachine};
 ghost use Rattle.session_core.specs.Inner.Answers.{engine_answer};
+ghost use Rattle.session_core.specs.Inner.Kept.{AllKept, KeepsOn, KeptAt};
 ghost use Rattle.session_machine.specs.Machine.{Machine, after_stmt, closed_at_end, is_failed, next, with_session};
 ghost use Rattle.session_machine.specs.Inner.Steps.{after_block_end, finished, around};
 ghost use Rattle.session_machine.specs.Waits.{is_still_blocked};
 ghost use Rattle.session_machine.specs.Engine.{Goes};
+ghost use Rattle.wait_laws.specs.Laws.{Reaches, stmt_at};
 
 use crate::block_stmts::{StmtAt, stmt_at};
+use crate::kept::Kept;
 use crate::live::Live;
 use crate::waits::is_still_blocked;
 use row_versions::Versions;
@@ -105,6 +108,7 @@ impl<'a, 't, V: Versions> Live<'a, 't, V> {
     fn due(&self, blocks: &'a [Block<'t>], mode: Mode, session: u32) -> Result<Due<'a, 't>, Refusal>
         ensures within { IfOk result (λ d. d.place.next < d.at.count) }
         ensures fits { IfOk result (λ d. d.at.count < 2 ^ 64) }
+        ensures tree { IfOk result (λ d. stmt_at (blocks_of blocks.now) (Some d.place) ≡ Some (stmt_of d.at.stmt.now)) }
         ensures ok { IfOk result (λ d. (s : SessionFacts) × (slice_get self.now.sessions session ≡ Some s) × (s.place ≡ Some d.place)
             × (is_still_blocked self.now.db s ≡ false)
             × (next (blocks_of blocks.now) mode self.now (Event.Step session)
@@ -143,17 +147,27 @@ impl<'a, 't, V: Versions> Live<'a, 't, V> {
         }
     }
 
-    /// The session stays at its statement, or goes on behind it.
-    fn go_on(&mut self, session: u32, place: Place, count: usize, did: Effect<'t>) -> Reply<'t>
+    /// The session stays at its statement, whose targets it keeps, or goes on behind it.
+    fn go_on(
+        &mut self,
+        kept: &mut Kept,
+        session: u32,
+        place: Place,
+        count: usize,
+        did: Effect<'t>,
+    ) -> Reply<'t>
         requires there { session < length self.old.sessions }
         requires room { self.old.events + 1 < 2 ^ 64 }
         requires opened { (t : OpenTransaction) → did.transaction ≡ Transaction.Open t → IsOpen self.old.db.content t.tx }
         requires within { place.next < count }
         requires fits { count < 2 ^ 64 }
-        ensures { after_stmt self.old session place count
+        requires lists { session < length kept.old }
+        ensures after { after_stmt self.old session place count
             (record { db = self.old.db; transaction = did.entry.transaction; statement = did.entry.statement; outcome = did.entry.outcome })
             ≡ record { machine = self.new; reply = result } }
+        ensures kept { kept.new ≡ slice_set kept.old session did.entry.targets }
     {
+        kept.put(session, did.targets);
         if did.statement.is_some() {
             self.set_session(
                 session,
@@ -184,19 +198,28 @@ impl<'a, 't, V: Versions> Live<'a, 't, V> {
         }
     }
 
-    /// Runs the session's statement from its place on.
-    fn run(&mut self, session: u32, due: Due<'a, 't>) -> Result<Reply<'t>, AllocError>
+    /// Runs the session's statement from its place on, over the targets that it has kept, if it waits.
+    fn run(
+        &mut self,
+        kept: &mut Kept,
+        session: u32,
+        due: Due<'a, 't>,
+    ) -> Result<Reply<'t>, AllocError>
         requires sound { IsSoundMachine self.old }
         requires room { self.old.events + 1 < 2 ^ 64 }
         requires current { (s : SessionFacts) × (slice_get self.old.sessions session ≡ Some s) × (s.place ≡ Some due.place) × (is_still_blocked self.old.db s ≡ false) }
         requires within { due.place.next < due.at.count }
         requires fits { due.at.count < 2 ^ 64 }
-        ensures { IfOk result (λ reply. IfSome (slice_get self.old.sessions session) (λ s.
+        requires long { length kept.old ≡ length self.old.sessions }
+        requires kept { KeptAt self.old session (stmt_of due.at.stmt.now) kept.old }
+        ensures reply { IfOk result (λ reply. IfSome (slice_get self.old.sessions session) (λ s.
             after_stmt self.old session due.entry.place due.entry.at.count
             (run_stmt self.old.db s.transaction s.statement (around self.old session s) (stmt_of due.entry.at.stmt.now))
             ≡ record { machine = self.new; reply = reply })) }
+        ensures kept { OnOk result (KeepsOn self.old.db (stmt_of due.entry.at.stmt.now) session self.new kept.old kept.new) }
     {
         stays_sound();
+        let targets = kept.take(session);
         let taken = self.take_session(session);
         let transaction = taken.transaction;
         let statement = taken.statement;
@@ -204,24 +227,34 @@ impl<'a, 't, V: Versions> Live<'a, 't, V> {
             sessions: &self.sessions,
             number: self.events,
         };
-        let did = run_statement(&mut self.db, &transaction, statement, &around, due.at.stmt)?;
-        Ok(self.go_on(session, due.place, due.at.count, did))
+        let did = run_statement(
+            &mut self.db,
+            &transaction,
+            statement,
+            targets,
+            &around,
+            due.at.stmt,
+        )?;
+        Ok(self.go_on(kept, session, due.place, due.at.count, did))
     }
 
     /// Begins the session's next statement, or goes on with the one that waits, or says why not.
     pub fn step(
         &mut self,
+        kept: &mut Kept,
         blocks: &'a [Block<'t>],
         mode: Mode,
         session: u32,
     ) -> Result<Result<Reply<'t>, Refusal>, AllocError>
         requires sound { IsSoundMachine self.old }
         requires room { self.old.events + 1 < 2 ^ 64 }
+        requires kept { AllKept (blocks_of blocks.now) self.old kept.old }
         ensures answer { IfOk result (λ answer. engine_answer self.old (next (blocks_of blocks.now) mode self.old (Event.Step session)) ≡ record { machine = self.new; answer = answer }) }
+        ensures kept { (count : ℕ) → Reaches (blocks_of blocks.now) mode count self.old → OnOk result (AllKept (blocks_of blocks.now) self.new kept.new) }
         ensures due { OnErr result (Goes (blocks_of blocks.now) mode self.old (Event.Step session)) }
     {
         match self.due(blocks, mode, session) {
-            Ok(due) => Ok(Ok(self.run(session, due)?)),
+            Ok(due) => Ok(Ok(self.run(kept, session, due)?)),
             Err(refusal) => Ok(Err(refusal)),
         }
     }

@@ -1,5 +1,5 @@
 -- A statement begins at its table, and goes over the targets that were found.
-use Rattle.std.proofs.Common.{◌≡◌, ◌∙◌, refl, sym, ap, ℕ, List, [], drop}
+use Rattle.std.proofs.Common.{◌≡◌, ◌∙◌, refl, ap, ℕ, List, [], drop}
 use Rattle.std.specs.Prelude.{Option, Some, None, option_map, Result, Ok, Err}
 use Rattle.std.specs.Option.{option_map_or}
 use Rattle.std.proofs.lemmas.Option.{same_Some}
@@ -30,15 +30,16 @@ use Rattle.session_machine.specs.Walks.{Walk}
 use Rattle.session_machine.specs.Statements.{Effect, Surroundings, answers, fails}
 use Rattle.session_machine.specs.Rows.{Work, columns_in, over_targets}
 use Rattle.session_machine.specs.Running.{at_once, begin_at, fault_in, leads_to, run_in}
-use Rattle.session_machine.specs.Inner.Statements.{walked_from, answer, beginning, answered, insert_from, update_from, delete_from, lock_from, select, Visit, walked}
+use Rattle.session_machine.specs.Inner.Statements.{after_walk, walked_from, answer, beginning, answered, insert_from, update_from, delete_from, lock_from, select, Visit, walked}
 use Rattle.session_machine.specs.Inner.Pieces.{table_columns}
 use Rattle.session_machine.proofs.ByKind.{runs_by_kind}
 use Rattle.session_statements.specs.Inner.Going.{go_from}
 
 -- targets that were found are gone over from the place on
-pub found_targets : (at : Database → Seen → Visit) (db : Database) (place : ℕ) (rows : List (List Value)) (r : Result (List Seen) ValueFault) (targets got : List Seen)
-    → r ≡ Ok targets → got ≡ targets → walked_from at db place rows r ≡ walked at db place rows (drop place got)
-found_targets at db place rows r targets got is same = ap (walked_from at db place rows) is ∙ ap (λ (xs : List Seen). walked at db place rows (drop place xs)) (sym same)
+pub goes_over : (at : Database → Seen → Visit) (db : Database) (w : Work) (outcome : List (List Value) → Outcome) (place : ℕ) (rows : List (List Value)) (targets : List Seen)
+    {r : Result (List Seen) ValueFault} → r ≡ Ok targets
+    → after_walk db.content w outcome (walked_from at db place rows r) ≡ after_walk db.content w outcome (walked at db place rows (drop place targets))
+goes_over at db w outcome place rows targets is = ap (λ (x : Result (List Seen) ValueFault). after_walk db.content w outcome (walked_from at db place rows x)) is
 
 -- ---- one that ends
 

@@ -6,3 +6,5 @@ pub mod Keeping
 pub mod Visiting
 pub mod Waited
 pub mod Inserting
+pub mod Kept
+pub mod Alone

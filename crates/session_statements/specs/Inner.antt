@@ -3,3 +3,4 @@ pub mod Left
 pub mod Acting
 pub mod Going
 pub mod Keeping
+pub mod Kept

@@ -1,6 +1,6 @@
 //! A statement over a table: it begins at the table that its name means, and goes over its targets there.
 
-ghost use Rattle.std.specs.Prelude.{◌≡◌, ◌+◌, ◌<◌, ◌^◌, Some, true, IfOk, OnErr};
+ghost use Rattle.std.specs.Prelude.{◌≡◌, ◌+◌, ◌<◌, ◌^◌, [], Some, Ok, true, IfOk, OnErr};
 ghost use Rattle.sql_trees.specs.Statements.{name_of, stmt_of};
 ghost use Rattle.row_versions.specs.Log.{IsOpen};
 ghost use Rattle.session_machine.specs.Tables.{find_table};
@@ -8,17 +8,19 @@ ghost use Rattle.session_machine.specs.Running.{begin_at};
 ghost use Rattle.session_statements.specs.Inner.Going.{go_from, has_targets, reaches};
 ghost use Rattle.session_statements.specs.Inner.Keeping.{IsAtWork, IsOrderly};
 ghost use Rattle.session_statements.specs.Inner.Left.{left};
+ghost use Rattle.session_statements.specs.Targets.{AreKept, targets_of};
 
 use crate::act::Act;
 use crate::effect::Effect;
 use crate::faults::fault_in;
 use crate::insert::insert_from;
-use crate::select::select_from;
-use crate::transactions::fail;
+use crate::select::select_rows;
+use crate::targets::targets_of;
+use crate::transactions::{fail, fail_value};
 use crate::update::update_from;
-use crate::walk::go_over_passing;
+use crate::walk::go_over;
 use iso_lexer::{Ident, Name};
-use row_versions::Versions;
+use row_versions::{Seen, Versions};
 use session_database::{Database, Surroundings, Work};
 use session_machine::{OpenTransaction, StmtFault, Transaction};
 use sql_trees::Stmt;
@@ -36,26 +38,45 @@ pub(crate) fn has_targets(stmt: &Stmt<'_>) -> bool
     }
 }
 
-/// The statement goes over its targets, from this place on; one that has none answers at once.
+/// The statement goes over these targets, which are its own, from this place on; one that has none answers at once.
 pub(crate) fn go_on<'a, 't, V: Versions>(
     db: &mut Database<'a, 't, V>,
     work: &Work<'_>,
     stmt: &'a Stmt<'t>,
+    targets: Vec<Seen>,
     place: usize,
     rows: Vec<Row>,
 ) -> Result<Effect<'t>, AllocError>
     requires work { IsAtWork db.old work.now }
-    ensures { IfOk result (λ did. go_from db.old work.now (stmt_of stmt.now) place rows.items ≡ left db.new did) }
+    requires targets { targets_of db.old work.now (stmt_of stmt.now) ≡ Ok targets.items }
+    ensures did { IfOk result (λ did. go_from db.old work.now (stmt_of stmt.now) place rows.items ≡ left db.new did) }
+    ensures kept { IfOk result (λ did. AreKept db.old (stmt_of stmt.now) did.statement did.targets) }
 {
     match stmt {
-        Stmt::Insert(insert) => insert_from(db, work, insert, place, rows),
-        Stmt::Update(update) => update_from(db, work, update, place, rows),
-        Stmt::Delete(delete) => {
-            let act = Act::Delete(delete);
-            go_over_passing(db, work, &act, &delete.filter, place, rows)
-        }
-        Stmt::Select(select) => select_from(db, work, select, place, rows),
+        Stmt::Insert(insert) => insert_from(db, work, insert, targets, place, rows),
+        Stmt::Update(update) => update_from(db, work, update, targets, place, rows),
+        Stmt::Delete(delete) => go_over(db, work, &Act::Delete(delete), targets, place, rows),
+        Stmt::Select(select) => match select.lock {
+            Some(lock) => go_over(db, work, &Act::Lock(select, lock), targets, place, rows),
+            None => select_rows(db, work, select),
+        },
         _ => Ok(Effect::turned(Transaction::Open(db.after_query(&work.by)))),
+    }
+}
+
+/// The statement begins at its table: its targets are those of now.
+fn start<'a, 't, V: Versions>(
+    db: &mut Database<'a, 't, V>,
+    work: &Work<'_>,
+    stmt: &'a Stmt<'t>,
+) -> Result<Effect<'t>, AllocError>
+    requires work { IsAtWork db.old work.now }
+    ensures did { IfOk result (λ did. go_from db.old work.now (stmt_of stmt.now) 0 [] ≡ left db.new did) }
+    ensures kept { IfOk result (λ did. AreKept db.old (stmt_of stmt.now) did.statement did.targets) }
+{
+    match targets_of(db, work, stmt) {
+        Ok(targets) => go_on(db, work, stmt, targets, 0, Vec::new(db.alloc())),
+        Err(fault) => fail_value(db, &work.by, fault),
     }
 }
 
@@ -72,6 +93,7 @@ pub(crate) fn begin_at<'a, 't, V: Versions>(
     requires room { by.now.command + 1 < 2 ^ 64 }
     requires orderly { IsOrderly db.old }
     ensures did { IfOk result (λ did. begin_at db.old by.now around.now (name_of name.entry) (stmt_of stmt.now) ≡ left db.new did) }
+    ensures kept { IfOk result (λ did. AreKept db.old (stmt_of stmt.now) did.statement did.targets) }
     ensures memory { OnErr result (reaches db.old (stmt_of stmt.now) (find_table db.old (Some by.now.tx) (name_of name.entry)) ≡ true) }
 {
     let Some(place) = db.find_table(Some(by.tx), &name) else {
@@ -81,5 +103,5 @@ pub(crate) fn begin_at<'a, 't, V: Versions>(
         return Ok(fail(db, by, fault));
     }
     let work = db.work(by, place, around);
-    go_on(db, &work, stmt, 0, Vec::new(db.alloc()))
+    start(db, &work, stmt)
 }

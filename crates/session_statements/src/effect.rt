@@ -2,6 +2,7 @@
 
 ghost use Rattle.std.specs.Prelude.{◌≡◌, None};
 
+use row_versions::Seen;
 use session_machine::{Outcome, Progress, Transaction};
 
 /// What a statement leaves of its session's transaction, where it is in the middle of its targets, and what came of it.
@@ -9,24 +10,27 @@ use session_machine::{Outcome, Progress, Transaction};
 pub struct Effect<'t> {
     pub transaction: Transaction,
     pub statement: Option<Progress>,
+    /// All targets of the statement that it is in the middle of.
+    pub targets: Option<Vec<Seen>>,
     pub outcome: Outcome<'t>,
 }
 
 impl<'t> Effect<'t> {
     /// The statement is over.
     pub(crate) fn of(transaction: Transaction, outcome: Outcome<'t>) -> Effect<'t>
-        ensures { result ≡ record { transaction = transaction; statement = None; outcome = outcome.entry } }
+        ensures { result ≡ record { transaction = transaction; statement = None; targets = None; outcome = outcome.entry } }
     {
         Effect {
             transaction,
             statement: None,
+            targets: None,
             outcome,
         }
     }
 
     /// The statement is over, and has no result.
     pub(crate) fn turned(transaction: Transaction) -> Effect<'t>
-        ensures { result ≡ record { transaction = transaction; statement = None; outcome = Outcome.Done } }
+        ensures { result ≡ record { transaction = transaction; statement = None; targets = None; outcome = Outcome.Done } }
     {
         Effect::of(transaction, Outcome::Done)
     }

@@ -15,6 +15,7 @@ ghost use Rattle.session_machine.specs.Inner.Pieces.{insert_made};
 ghost use Rattle.session_statements.specs.Inner.Acting.{halted_walk, putting_of, visit_of};
 ghost use Rattle.session_statements.specs.Inner.Going.{go_from};
 ghost use Rattle.session_statements.specs.Inner.Keeping.{IsAtWork};
+ghost use Rattle.session_statements.specs.Inner.Kept.{HasKept};
 ghost use Rattle.session_statements.specs.Inner.Left.{left};
 
 use crate::act::{Halt, Putting, Visited};
@@ -24,7 +25,7 @@ use crate::returning::returned;
 use crate::targets::all_or_none;
 use crate::walk::end;
 use iso_lexer::Name;
-use row_versions::Versions;
+use row_versions::{Seen, Versions};
 use session_database::{Database, Stop, Work};
 use session_machine::StmtFault;
 use session_queries::{AssignedColumns, columns_assigned, new_values};
@@ -143,19 +144,21 @@ fn insert_rows<'a, 't, V: Versions>(
     Ok(None)
 }
 
-/// INSERT, from this place among the rows of its VALUES on.
+/// INSERT, from this place among the rows of its VALUES on; it has no targets besides.
 pub(crate) fn insert_from<'a, 't, V: Versions>(
     db: &mut Database<'a, 't, V>,
     work: &Work<'_>,
     stmt: &'a Insert<'t>,
+    targets: Vec<Seen>,
     place: usize,
     rows: Vec<Row>,
 ) -> Result<Effect<'t>, AllocError>
     requires work { IsAtWork db.old work.now }
-    ensures { IfOk result (λ did. go_from db.old work.now (Inserts (insert_of stmt.now)) place rows.items ≡ left db.new did) }
+    ensures did { IfOk result (λ did. go_from db.old work.now (Inserts (insert_of stmt.now)) place rows.items ≡ left db.new did) }
+    ensures kept { IfOk result (λ did. HasKept work.now targets.items did.statement did.targets) }
 {
     let mut answered = rows;
     let to = inserted_to(db.alloc(), db.columns_in(work), stmt.columns.as_ref())?;
     let halted = insert_rows(db, work, stmt, &to, place, &mut answered)?;
-    end(db, work, stmt.returning.as_ref(), halted, answered)
+    end(db, work, stmt.returning.as_ref(), halted, answered, targets)
 }

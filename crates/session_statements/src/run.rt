@@ -13,13 +13,14 @@ ghost use Rattle.session_machine.specs.Sound.{RowsFit, RowsStay};
 ghost use Rattle.session_statements.specs.Inner.Keeping.{IsOrderly};
 ghost use Rattle.session_statements.specs.Inner.Left.{left};
 ghost use Rattle.session_statements.specs.Growing.{begins, is_query, may_grow};
+ghost use Rattle.session_statements.specs.Targets.{AreKept, AreTargets};
 
 use crate::begin::{begin_at, go_on, has_targets};
 use crate::definitions::{create, drop_tables};
 use crate::effect::Effect;
 use crate::select::select_constant;
 use crate::transactions::{begin_again, run_aborted, set_level};
-use row_versions::Versions;
+use row_versions::{Seen, Versions};
 use session_database::{Database, Surroundings, Work};
 use session_machine::{OpenTransaction, Progress, Transaction};
 use sql_trees::{Level, Stmt};
@@ -46,6 +47,7 @@ fn run_open<'a, 't, V: Versions>(
     ensures did { IfOk result (λ did.
         run_in db.old by.now around.now (stmt_of stmt.now)
         ≡ left db.new did) }
+    ensures kept { IfOk result (λ did. AreKept db.old (stmt_of stmt.now) did.statement did.targets) }
     ensures memory { OnErr result (is_query (stmt_of stmt.now) ≡ true) }
 {
     match stmt {
@@ -79,9 +81,10 @@ fn run_first<'a, 't, V: Versions>(
     stmt: &'a Stmt<'t>,
 ) -> Result<Effect<'t>, AllocError>
     requires orderly { IsOrderly db.old }
-    ensures { IfOk result (λ did.
+    ensures did { IfOk result (λ did.
         run_in (begun db.old) (fresh db.old.content Level.ReadCommitted false) around.now (stmt_of stmt.now)
         ≡ left db.new did) }
+    ensures kept { IfOk result (λ did. AreKept db.old (stmt_of stmt.now) did.statement did.targets) }
 {
     let open = db.begin(Level::ReadCommitted, false)?;
     run_open(db, &open, around, stmt)
@@ -111,6 +114,7 @@ fn run_closed<'a, 't, V: Versions>(
     ensures did { (statement : Option ProgressFacts) → IfOk result (λ did.
         run_stmt db.old Transaction.Closed statement around.now (stmt_of stmt.now)
         ≡ left db.new did) }
+    ensures kept { IfOk result (λ did. AreKept db.old (stmt_of stmt.now) did.statement did.targets) }
     ensures memory { OnErr result (begins (stmt_of stmt.now) ≡ true) }
 {
     match stmt {
@@ -123,19 +127,22 @@ fn run_closed<'a, 't, V: Versions>(
     }
 }
 
-/// A statement that goes on where it waits.
+/// A statement that goes on where it waits, over the targets that were kept.
 fn run_on<'a, 't, V: Versions>(
     db: &mut Database<'a, 't, V>,
     by: &OpenTransaction,
     around: &Surroundings<'_>,
     progress: Progress,
+    targets: Vec<Seen>,
     stmt: &'a Stmt<'t>,
 ) -> Result<Effect<'t>, AllocError>
     requires opened { IsOpen db.old.content by.now.tx }
     requires room { by.now.command + 1 < 2 ^ 64 }
     requires orderly { IsOrderly db.old }
     requires within { progress.table.0 < length db.old.catalog.tables }
+    requires kept { AreTargets db.old (stmt_of stmt.now) progress targets.items }
     ensures did { IfOk result (λ did. run_stmt db.old (Transaction.Open by.now) (Some progress) around.now (stmt_of stmt.now) ≡ left db.new did) }
+    ensures kept { IfOk result (λ did. AreKept db.old (stmt_of stmt.now) did.statement did.targets) }
     ensures memory { OnErr result (is_query (stmt_of stmt.now) ≡ true) }
 {
     let place = progress.place;
@@ -148,16 +155,18 @@ fn run_on<'a, 't, V: Versions>(
     if !has_targets(stmt) {
         return run_open(db, by, around, stmt);
     }
-    go_on(db, &work, stmt, place, rows_so_far(progress))
+    go_on(db, &work, stmt, targets, place, rows_so_far(progress))
 }
 
-/// Runs a statement of a session whose transaction is the given one, or goes on with it where it waits, and
-/// answers what is left of that, with what came of the statement. Where memory is refused nothing is said of the
-/// database.
+/// Runs a statement of a session whose transaction is the given one, or goes on with it where it waits, over the
+/// targets that it has kept, and answers what is left of that, with what came of the statement. One that waits is
+/// left with its targets: those of the state in which it began or went on. Where memory is refused nothing is said of
+/// the database.
 pub fn run_statement<'a, 't, V: Versions>(
     db: &mut Database<'a, 't, V>,
     transaction: &Transaction,
     statement: Option<Progress>,
+    targets: Option<Vec<Seen>>,
     around: &Surroundings<'_>,
     stmt: &'a Stmt<'t>,
 ) -> Result<Effect<'t>, AllocError>
@@ -166,15 +175,18 @@ pub fn run_statement<'a, 't, V: Versions>(
     requires fit { RowsFit db.old.content db.old.catalog }
     requires stay { RowsStay db.old.content }
     requires within { (p : ProgressFacts) → statement ≡ Some p → p.table.0 < length db.old.catalog.tables }
+    requires kept { AreKept db.old (stmt_of stmt.now) statement targets }
     ensures did { IfOk result (λ did. run_stmt db.old transaction.now statement around.now (stmt_of stmt.now)
         ≡ record { db = db.new; transaction = did.transaction; statement = did.statement; outcome = did.outcome }) }
+    ensures kept { IfOk result (λ did. AreKept db.old (stmt_of stmt.now) did.statement did.targets) }
     ensures memory { OnErr result (may_grow transaction.now (stmt_of stmt.now) ≡ true) }
 {
     match transaction {
         Transaction::Closed => run_closed(db, around, stmt),
-        Transaction::Open(by) => match statement {
-            None => run_open(db, by, around, stmt),
-            Some(progress) => run_on(db, by, around, progress, stmt),
+        Transaction::Open(by) => match (statement, targets) {
+            (Some(progress), Some(targets)) => run_on(db, by, around, progress, targets, stmt),
+            (Some(_), None) => unreachable!(),
+            (None, _) => run_open(db, by, around, stmt),
         },
         Transaction::Aborted => Ok(run_aborted(stmt)),
     }

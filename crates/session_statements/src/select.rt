@@ -14,13 +14,11 @@ ghost use Rattle.session_machine.specs.Statements.{fails};
 ghost use Rattle.session_machine.specs.Running.{at_once, fault_in};
 ghost use Rattle.session_machine.specs.Inner.Statements.{answered};
 ghost use Rattle.session_machine.specs.Sound.{RowsFit};
-ghost use Rattle.session_statements.specs.Inner.Going.{go_from};
 ghost use Rattle.session_statements.specs.Inner.Keeping.{IsAtWork};
 ghost use Rattle.session_statements.specs.Inner.Left.{left};
 
 use crate::effect::Effect;
 use crate::faults::fault_in_select;
-use crate::lock::lock_from;
 use crate::transactions::{fail, fail_value};
 use query_results::ResultSet;
 use row_versions::Versions;
@@ -75,7 +73,7 @@ fn answer<'a, 't, V: Versions>(
 }
 
 /// A SELECT that doesn't lock answers at once: what its view shows of its table, or the fault of its first row that has one.
-fn select_rows<'a, 't, V: Versions>(
+pub(crate) fn select_rows<'a, 't, V: Versions>(
     db: &mut Database<'a, 't, V>,
     work: &Work<'_>,
     stmt: &'a Select<'t>,
@@ -105,21 +103,4 @@ pub(crate) fn select_constant<'a, 't, V: Versions>(
     }
     let made = constant_result(db.alloc(), stmt);
     answer(db, by, made)
-}
-
-/// A SELECT: one that locks goes over its targets, from this place on.
-pub(crate) fn select_from<'a, 't, V: Versions>(
-    db: &mut Database<'a, 't, V>,
-    work: &Work<'_>,
-    stmt: &'a Select<'t>,
-    place: usize,
-    rows: Vec<Row>,
-) -> Result<Effect<'t>, AllocError>
-    requires work { IsAtWork db.old work.now }
-    ensures { IfOk result (λ did. go_from db.old work.now (Selects (select_of stmt.now)) place rows.items ≡ left db.new did) }
-{
-    match stmt.lock {
-        Some(lock) => lock_from(db, work, stmt, lock, place, rows),
-        None => select_rows(db, work, stmt),
-    }
 }

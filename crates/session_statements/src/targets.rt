@@ -2,19 +2,19 @@
 
 ghost use Rattle.std.specs.Prelude.{◌≡◌, ℕ, ◌<◌, [], ◌∷◌, List, Result, length, filter_map, slice_get, option_map, IfOk};
 ghost use Rattle.sql_trees.specs.Trees.{tree_of};
-ghost use Rattle.sql_trees.specs.Statements.{select_of};
+ghost use Rattle.sql_trees.specs.Statements.{select_of, stmt_of};
 ghost use Rattle.sql_values.specs.declared.fault.ValueFault.{ValueFault as ValueFaultFacts};
-ghost use Rattle.row_versions.specs.Log.{Content};
 ghost use Rattle.session_machine.specs.Inner.Statements.{assigned_to};
 ghost use Rattle.session_machine.specs.Targets.{at_places, passing_targets, taken_targets};
 ghost use Rattle.session_queries.specs.Code.Fronts.{AnswersList};
-ghost use Rattle.session_statements.specs.Inner.Keeping.{IsOrderly, RowsIn};
+ghost use Rattle.session_statements.specs.Inner.Keeping.{IsOrderly};
+ghost use Rattle.session_statements.specs.Targets.{targets_of};
 
 use iso_lexer::Ident;
 use row_versions::{Seen, Versions};
 use session_database::{Database, Work};
 use session_queries::{AssignedColumns, passing_places, taken_places};
-use sql_trees::{Expr, Select};
+use sql_trees::{Expr, Select, Stmt};
 use sql_values::ValueFault;
 use std::alloc::{AllocError, Global};
 
@@ -58,23 +58,21 @@ fn at_places<'t>(
     seen: &[Seen],
     places: Result<Vec<usize>, ValueFault<'t>>,
 ) -> Result<Vec<Seen>, ValueFault<'t>>
-    ensures targets { (answer : Result (List ℕ) ValueFaultFacts) → AnswersList places.entry answer → AnswersList result (at_places seen.now answer) }
-    ensures its { (c : Content) (table : ℕ) → RowsIn c table seen.now → IfOk result (λ targets. RowsIn c table targets.items) }
+    ensures { (answer : Result (List ℕ) ValueFaultFacts) → AnswersList places.entry answer → AnswersList result (at_places seen.now answer) }
 {
     let places = places?;
     Ok(picked(alloc, seen, &places)?)
 }
 
 /// The targets of an UPDATE or DELETE with this WHERE.
-pub(crate) fn passing_targets<'a, 't, V: Versions>(
+fn passing_targets<'a, 't, V: Versions>(
     db: &Database<'a, 't, V>,
     work: &Work<'_>,
     filter: &Option<Expr<'t>>,
 ) -> Result<Vec<Seen>, ValueFault<'t>>
     requires within { work.now.table < length db.now.catalog.tables }
     requires orderly { IsOrderly db.now }
-    ensures targets { AnswersList result (passing_targets db.now work.now (option_map tree_of filter.now)) }
-    ensures its { IfOk result (λ targets. RowsIn db.now.content work.now.table targets.items) }
+    ensures { AnswersList result (passing_targets db.now work.now (option_map tree_of filter.now)) }
 {
     let seen = db.seen_by(work)?;
     let rows = db.values_of(&seen)?;
@@ -83,18 +81,38 @@ pub(crate) fn passing_targets<'a, 't, V: Versions>(
 }
 
 /// The targets of a locking SELECT, as ORDER BY sorts them.
-pub(crate) fn taken_targets<'a, 't, V: Versions>(
+fn taken_targets<'a, 't, V: Versions>(
     db: &Database<'a, 't, V>,
     work: &Work<'_>,
     stmt: &Select<'t>,
 ) -> Result<Vec<Seen>, ValueFault<'t>>
     requires within { work.now.table < length db.now.catalog.tables }
     requires orderly { IsOrderly db.now }
-    ensures targets { AnswersList result (taken_targets db.now work.now (select_of stmt.now)) }
-    ensures its { IfOk result (λ targets. RowsIn db.now.content work.now.table targets.items) }
+    ensures { AnswersList result (taken_targets db.now work.now (select_of stmt.now)) }
 {
     let seen = db.seen_by(work)?;
     let rows = db.values_of(&seen)?;
     let places = taken_places(db.alloc(), stmt, db.columns_in(work), &rows);
     at_places(db.alloc(), &seen, places)
+}
+
+/// The targets of a statement at work, those that it has none of as none.
+pub(crate) fn targets_of<'a, 't, V: Versions>(
+    db: &Database<'a, 't, V>,
+    work: &Work<'_>,
+    stmt: &Stmt<'t>,
+) -> Result<Vec<Seen>, ValueFault<'t>>
+    requires within { work.now.table < length db.now.catalog.tables }
+    requires orderly { IsOrderly db.now }
+    ensures { AnswersList result (targets_of db.now work.now (stmt_of stmt.now)) }
+{
+    match stmt {
+        Stmt::Update(update) => passing_targets(db, work, &update.filter),
+        Stmt::Delete(delete) => passing_targets(db, work, &delete.filter),
+        Stmt::Select(select) => match select.lock {
+            Some(_) => taken_targets(db, work, select),
+            None => Ok(Vec::new(db.alloc())),
+        },
+        _ => Ok(Vec::new(db.alloc())),
+    }
 }

@@ -8,9 +8,11 @@ ghost use Rattle.sql_values.specs.Values.{Answers};
 ghost use Rattle.session_machine.specs.Rows.{cols_in, columns_in, update_strength, values_of};
 ghost use Rattle.session_machine.specs.Inner.Statements.{update_with, assigned_to};
 ghost use Rattle.session_machine.specs.Inner.Pieces.{update_made};
+ghost use Rattle.session_machine.specs.Targets.{passing_targets};
 ghost use Rattle.session_statements.specs.Inner.Acting.{putting_of, visit_of};
 ghost use Rattle.session_statements.specs.Inner.Going.{go_from};
 ghost use Rattle.session_statements.specs.Inner.Keeping.{IsAtWork, IsOrderly, RowIn};
+ghost use Rattle.session_statements.specs.Inner.Kept.{HasKept};
 ghost use Rattle.session_statements.specs.Inner.Left.{left};
 
 use crate::act::{Act, Putting, Visited};
@@ -19,7 +21,7 @@ use crate::effect::Effect;
 use crate::insert::fault_of;
 use crate::returning::returned;
 use crate::targets::all_or_none;
-use crate::walk::go_over_passing;
+use crate::walk::go_over;
 use iso_lexer::Name;
 use row_versions::{Seen, Versions};
 use session_database::{Database, Stop, Work};
@@ -132,12 +134,15 @@ pub(crate) fn update_from<'a, 't, V: Versions>(
     db: &mut Database<'a, 't, V>,
     work: &Work<'_>,
     stmt: &'a Update<'t>,
+    targets: Vec<Seen>,
     place: usize,
     rows: Vec<Row>,
 ) -> Result<Effect<'t>, AllocError>
     requires work { IsAtWork db.old work.now }
-    ensures { IfOk result (λ did. go_from db.old work.now (Updates (update_of stmt.now)) place rows.items ≡ left db.new did) }
+    requires targets { passing_targets db.old work.now (update_of stmt.now).filter ≡ Ok targets.items }
+    ensures did { IfOk result (λ did. go_from db.old work.now (Updates (update_of stmt.now)) place rows.items ≡ left db.new did) }
+    ensures kept { IfOk result (λ did. HasKept work.now targets.items did.statement did.targets) }
 {
     let to = assigned_to(db.alloc(), db.columns_in(work), &stmt.sets)?;
-    go_over_passing(db, work, &Act::Update(stmt, &to), &stmt.filter, place, rows)
+    go_over(db, work, &Act::Update(stmt, &to), targets, place, rows)
 }

@@ -1,7 +1,6 @@
 //! How a statement goes from one of its targets to the next, up to the one at which it stops.
 
 ghost use Rattle.std.specs.Prelude.{◌≡◌, ◌+◌, ◌<◌, ◌^◌, List, Some, drop, length, option_map, IfOk, OnOk};
-ghost use Rattle.sql_trees.specs.Trees.{tree_of};
 ghost use Rattle.sql_trees.specs.Statements.{items_of};
 ghost use Rattle.sql_values.specs.declared.value.Value.{Value as SqlValue};
 ghost use Rattle.row_versions.specs.Log.{Content, IsOpen};
@@ -10,24 +9,23 @@ ghost use Rattle.session_machine.specs.Transactions.{started};
 ghost use Rattle.session_machine.specs.Walks.{Blocked};
 ghost use Rattle.session_machine.specs.Tables.{Database as DatabaseFacts};
 ghost use Rattle.session_machine.specs.Rows.{columns_in};
-ghost use Rattle.session_machine.specs.Inner.Statements.{walked_from, answer, after_walk, pauses, walked};
-ghost use Rattle.session_machine.specs.Targets.{passing_targets};
+ghost use Rattle.session_machine.specs.Inner.Statements.{answer, after_walk, pauses, walked};
 ghost use Rattle.session_statements.specs.Inner.Acting.{halted_walk, items_in, visit_at};
 ghost use Rattle.session_statements.specs.Inner.Keeping.{IsAtWork, IsKept, RowsIn};
+ghost use Rattle.session_statements.specs.Inner.Kept.{HasKept};
 ghost use Rattle.session_statements.specs.Inner.Left.{left};
 
 use crate::act::{Act, Halt, Visited};
 use crate::effect::Effect;
 use crate::returning::answer;
 use crate::settle::visit;
-use crate::targets::passing_targets;
-use crate::transactions::{fail, fail_value};
+use crate::transactions::fail;
 use row_versions::{Seen, TableId, Versions};
 use session_database::{Database, Stop, Work};
 use session_machine::{
     Gathered, OpenTransaction, Outcome, Progress, Request, Transaction, Waiting,
 };
-use sql_trees::{Expr, Item};
+use sql_trees::Item;
 use sql_values::Row;
 use std::alloc::AllocError;
 
@@ -64,9 +62,11 @@ fn pause<'t>(
     place: usize,
     request: Request,
     rows: Vec<Row>,
+    targets: Vec<Seen>,
 ) -> Effect<'t>
-    ensures { (before : Content) (db : DatabaseFacts) → begun ≡ started before work.now.t →
+    ensures pauses { (before : Content) (db : DatabaseFacts) → begun ≡ started before work.now.t →
         pauses before work.now (record { db = db; place = place; rows = rows.items; stop = Some (Blocked request) }) request ≡ left db result }
+    ensures kept { HasKept work.now targets.items result.statement result.targets }
 {
     let around = work.around;
     Effect {
@@ -81,6 +81,7 @@ fn pause<'t>(
                 request,
             },
         }),
+        targets: Some(targets),
         outcome: Outcome::Waits,
     }
 }
@@ -91,34 +92,38 @@ fn halt<'a, 't, V: Versions>(
     work: &Work<'_>,
     halted: Halt<'t>,
     rows: Vec<Row>,
+    targets: Vec<Seen>,
 ) -> Effect<'t>
     requires opened { IsOpen db.old.content work.now.t.tx }
-    ensures { (before : Content) (outcome : List (List SqlValue) → OutcomeFacts) → before.fates ≡ db.old.content.fates →
+    ensures did { (before : Content) (outcome : List (List SqlValue) → OutcomeFacts) → before.fates ≡ db.old.content.fates →
         halted_walk before work.now outcome db.old rows.items (Some halted.entry) ≡ left db.new result }
+    ensures kept { HasKept work.now targets.items result.statement result.targets }
 {
     let Halt { place, stop } = halted;
     match stop {
         Stop::Blocked(request) => {
             let begun = db.started(&work.by);
-            pause(work, begun, place, request, rows)
+            pause(work, begun, place, request, rows, targets)
         }
         Stop::Fails(fault) => fail(db, &work.by, fault),
     }
 }
 
-/// A statement with these items has gone over its targets, or halted at one. No transaction has ended since it began.
+/// A statement with these items has gone over these targets, or halted at one. No transaction has ended since it began.
 pub(crate) fn end<'a, 't, V: Versions>(
     db: &mut Database<'a, 't, V>,
     work: &Work<'_>,
     items: Option<&Vec<Item<'t>>>,
     halted: Option<Halt<'t>>,
     rows: Vec<Row>,
+    targets: Vec<Seen>,
 ) -> Result<Effect<'t>, AllocError>
     requires opened { IsOpen db.old.content work.now.t.tx }
     requires room { work.now.t.command + 1 < 2 ^ 64 }
     requires within { work.now.table < length db.old.catalog.tables }
-    ensures { (before : Content) → before.fates ≡ db.old.content.fates → IfOk result (λ did.
+    ensures did { (before : Content) → before.fates ≡ db.old.content.fates → IfOk result (λ did.
         halted_walk before work.now (answer (columns_in db.old work.now) (option_map (λ is. items_of is.now) items.entry)) db.old rows.items halted.entry ≡ left db.new did) }
+    ensures kept { IfOk result (λ did. HasKept work.now targets.items did.statement did.targets) }
 {
     match halted {
         None => {
@@ -126,47 +131,27 @@ pub(crate) fn end<'a, 't, V: Versions>(
             let outcome = answer(db.alloc(), db.columns_in(work), items, rows)?;
             Ok(Effect::of(Transaction::Open(after), outcome))
         }
-        Some(at) => Ok(halt(db, work, at, rows)),
+        Some(at) => Ok(halt(db, work, at, rows, targets)),
     }
 }
 
-/// A statement goes over these targets, from this place on.
+/// A statement goes over these targets, from this place on, and keeps them where it waits.
 pub(crate) fn go_over<'a, 't, V: Versions>(
     db: &mut Database<'a, 't, V>,
     work: &Work<'_>,
     act: &Act<'_, 'a, 't>,
-    targets: &[Seen],
+    targets: Vec<Seen>,
     place: usize,
     rows: Vec<Row>,
 ) -> Result<Effect<'t>, AllocError>
     requires work { IsAtWork db.old work.now }
-    requires its { RowsIn db.old.content work.now.table targets.now }
-    ensures { IfOk result (λ did.
+    requires its { RowsIn db.old.content work.now.table targets.items }
+    ensures did { IfOk result (λ did.
         after_walk db.old.content work.now (answer (columns_in db.old work.now) (items_in act.now))
-        (walked (visit_at work.now act.now) db.old place rows.items (drop place targets.now)) ≡ left db.new did) }
+        (walked (visit_at work.now act.now) db.old place rows.items (drop place targets.items)) ≡ left db.new did) }
+    ensures kept { IfOk result (λ did. HasKept work.now targets.items did.statement did.targets) }
 {
     let mut answered = rows;
-    let halted = walk(db, work, act, targets, place, &mut answered)?;
-    end(db, work, act.items(), halted, answered)
-}
-
-/// A statement goes over the targets that pass its WHERE, from this place on.
-pub(crate) fn go_over_passing<'a, 't, V: Versions>(
-    db: &mut Database<'a, 't, V>,
-    work: &Work<'_>,
-    act: &Act<'_, 'a, 't>,
-    filter: &Option<Expr<'t>>,
-    place: usize,
-    rows: Vec<Row>,
-) -> Result<Effect<'t>, AllocError>
-    requires work { IsAtWork db.old work.now }
-    ensures { IfOk result (λ did.
-        after_walk db.old.content work.now (answer (columns_in db.old work.now) (items_in act.now))
-        (walked_from (visit_at work.now act.now) db.old place rows.items (passing_targets db.old work.now (option_map tree_of filter.now)))
-        ≡ left db.new did) }
-{
-    match passing_targets(db, work, filter) {
-        Ok(targets) => go_over(db, work, act, &targets, place, rows),
-        Err(fault) => fail_value(db, &work.by, fault),
-    }
+    let halted = walk(db, work, act, &targets, place, &mut answered)?;
+    end(db, work, act.items(), halted, answered, targets)
 }

@@ -2,12 +2,19 @@ use Rattle.std.proofs.Common.{◌≡◌, ◌↔◌, ◌+◌, [], refl, ap, ◌�
 use Rattle.std.proofs.lemmas.List.{drop_all}
 use Rattle.sql_blocks.specs.Blocks.{blocks_of}
 use Rattle.session_machine.specs.Machine.{opening}
-use Rattle.session_core.proofs.Replaying.{LeadsOn, legal_step, legal_not, from_place}
+use Rattle.session_core.proofs.Replaying.{LeadsOn, legal_step, legal_not, from_place, reaches_on}
+use Rattle.session_core.proofs.Holding.{kept_opening}
 use Rattle.session_core.proofs.replay.replays.Goals as goal
 
 pub loop-item-init : goal.loop-item-init
 loop-item-init c =
-    rw c.in_ok-live.ensures (record { sound = c.stays_sound.ensures.opens c.args.count c.requires.few; counted = refl; legal = (λ h. h, λ h. h) })
+    rw c.in_ok-live.ensures (record {
+      sound = c.stays_sound.ensures.opens c.args.count c.requires.few;
+      counted = refl;
+      reached = ([], refl);
+      kept = kept_opening (blocks_of c.args.blocks.now) c.args.count (opening c.args.count) c.in_ok-kept.kept refl c.in_ok-kept.ensures;
+      legal = (λ h. h, λ h. h);
+    })
 
 pub returns-then-not-branch : goal.returns-then-not-branch
 returns-then-not-branch c =
@@ -29,6 +36,8 @@ loop-item-preserved c =
     record {
       sound = after.0;
       counted = after.1 ∙ ap (λ k. k + 1) c.loop-item.invariant.counted;
+      reached = reaches_on blocks c.args.mode c.args.count c.loop-item.live c.agrees.new.live c.item-item.result c.loop-item.invariant.reached follows;
+      kept = c.in_ok-agrees.ensures.kept c.args.count c.loop-item.invariant.reached;
       legal = legal_step _ _ c.loop-item.live c.agrees.new.live c.item-item.result (drop (i + 1) c.args.history.now) _ _ follows legal;
     }
 

@@ -1,4 +1,4 @@
-use Rattle.std.proofs.Common.{◌≡◌, ◌∙◌, sym, ap, subst, List}
+use Rattle.std.proofs.Common.{◌≡◌, ◌∙◌, sym, ap, subst, List, []}
 use Rattle.std.specs.Prelude.{IfOk, Some, None}
 use Rattle.sql_trees.specs.Statements.{ColumnTree, name_of, stmt_of}
 use Rattle.session_machine.specs.Tables.{find_table}
@@ -20,5 +20,5 @@ returns-clause-did g c =
     let at : find_table db (Some t.tx) name ≡ Some k = sym c.find_table.ensures.first ∙ c.in-Some.is in
     let right : fault_in (table_columns db.catalog k) stmt ≡ None =
     ap (λ (columns : List ColumnTree). fault_in columns stmt) (sym c.columns.ensures) ∙ sym c.in_ok-fault.ensures.fault ∙ c.in_default-2.is in
-    let there = begins_there db t c.args.around.now name stmt k at right ∙ λ i. go_from db (sym c.work-work.ensures i) stmt 0 (sym c.new-2.ensures.items i) in
-    subst (λ (x : Effect). IfOk c.go_on.result (λ did. x ≡ left c.go_on.new.db did)) (sym there) c.go_on.ensures
+    let there = begins_there db t c.args.around.now name stmt k at right ∙ λ i. go_from db (sym c.work-work.ensures i) stmt 0 [] in
+    subst (λ (x : Effect). IfOk c.start.result (λ did. x ≡ left c.start.new.db did)) (sym there) c.start.ensures.did

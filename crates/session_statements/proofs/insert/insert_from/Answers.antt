@@ -10,8 +10,8 @@ use Rattle.session_statements.specs.Inner.Left.{left}
 use Rattle.session_statements.proofs.Going.{inserts_on, same_end}
 use Rattle.session_statements.proofs.insert.insert_from.Goals as goal
 
-pub returns : goal.returns
-returns g c =
+pub returns-clause-did : goal.returns-clause-did
+returns-clause-did g c =
     let db = c.args.db.now in
     let w = c.args.work.now in
     let i = insert_of c.args.stmt.now in
@@ -27,4 +27,4 @@ returns g c =
     ∙ sym (inserts_on db w c.args.place c.args.rows.items i
     ∙ ap (λ (ts : List AssignedColumn). after_walk db.content w outcome (walked (insert_one w (put_insert i) ts) db c.args.place c.args.rows.items (drop c.args.place i.rows))) same
     ∙ c.in_ok-halted.ensures.walk db.content outcome) in
-    subst (λ (x : Effect). IfOk c.end.result (λ did. x ≡ left c.end.new.db did)) e (c.end.ensures db.content (sym c.in_ok-halted.ensures.fates))
+    subst (λ (x : Effect). IfOk c.end.result (λ did. x ≡ left c.end.new.db did)) e (c.end.ensures.did db.content (sym c.in_ok-halted.ensures.fates))

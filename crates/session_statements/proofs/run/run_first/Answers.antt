@@ -1,8 +1,19 @@
 use Rattle.std.proofs.Common.{sym, subst}
 use Rattle.session_machine.specs.Tables.{Database}
 use Rattle.session_statements.specs.Inner.Keeping.{IsOrderly}
+use Rattle.std.specs.Prelude.{IfOk}
+use Rattle.sql_trees.specs.Statements.{stmt_of}
+use Rattle.session_statements.specs.Targets.{AreKept}
+use Rattle.session_statements.proofs.Kept.{kept_since_begun}
 use Rattle.session_statements.proofs.run.run_first.Goals as goal
 
 pub run_open-requires-clause-orderly : goal.run_open-requires-clause-orderly
 run_open-requires-clause-orderly g c =
     subst (λ (db : Database). IsOrderly db) (sym c.in_ok-open.ensures.begun) c.requires.orderly
+
+pub returns-clause-kept : goal.returns-clause-kept
+returns-clause-kept g c =
+    let db = c.args.db.now in
+    let stmt = stmt_of c.args.stmt.now in
+    kept_since_begun db stmt c.run_open.result
+    (subst (λ (x : Database). IfOk c.run_open.result (λ did. AreKept x stmt did.statement did.targets)) c.in_ok-open.ensures.begun c.run_open.ensures.kept)

@@ -11,9 +11,7 @@ use Rattle.query_results.specs.Queries.{cols_of, passing}
 use Rattle.session_machine.specs.Rows.{cols_in}
 use Rattle.session_machine.specs.Targets.{at_places}
 use Rattle.session_machine.specs.Inner.Pieces.{shown_to, table_columns}
-use Rattle.session_statements.specs.Inner.Keeping.{RowsIn}
 use Rattle.session_statements.proofs.Lent.{lent_fit}
-use Rattle.session_statements.proofs.Keeping.{shown_in}
 use Rattle.session_statements.proofs.targets.passing_targets.Goals as goal
 
 pub passing_places-places-requires : goal.passing_places-places-requires
@@ -27,8 +25,8 @@ passing_places-places-requires g c k d h =
     sym (ap length c.columns_in.ensures) ∙ length-map c.columns_in.result.now column_of in
     lent_fit now c.deref-2.result.now db.content db.catalog w.view w.table c.requires.orderly.0 c.requires.within same k d h ∙ long
 
-pub returns-clause-targets : goal.returns-clause-targets
-returns-clause-targets g c =
+pub returns : goal.returns
+returns g c =
     let db = c.args.db.now in
     let w = c.args.work.now in
     let now = λ (r : Bor Row). r.now in
@@ -36,13 +34,6 @@ returns-clause-targets g c =
     let same : map now c.deref-2.result.now ≡ shown_to db w =
     ap (map now) c.deref-2.ensures.value ∙ c.in_ok-rows.ensures ∙ ap (map (λ (s : Seen). unwrap_or (values_at db.content s.place) [])) (c.deref.ensures.value ∙ c.in_ok-seen.ensures) in
     let due = passing (cols_in db w) filter (shown_to db w) in
-    subst (λ seen. AnswersList c.at_places.result (at_places seen due)) (c.deref-3.ensures.value ∙ c.in_ok-seen.ensures) (c.at_places.ensures.targets due
+    subst (λ seen. AnswersList c.at_places.result (at_places seen due)) (c.deref-3.ensures.value ∙ c.in_ok-seen.ensures) (c.at_places.ensures due
     (subst (λ cols. AnswersList c.passing_places-places.result (passing (cols_of cols) filter (shown_to db w))) c.columns_in.ensures
     (subst (λ rows. AnswersList c.passing_places-places.result (passing (cols_of (map column_of c.columns_in.result.now)) filter rows)) same c.passing_places-places.ensures.places)))
-
-pub returns-clause-its : goal.returns-clause-its
-returns-clause-its g c =
-    let db = c.args.db.now in
-    let w = c.args.work.now in
-    c.at_places.ensures.its db.content w.table
-    (subst (RowsIn db.content w.table) (sym (c.deref-3.ensures.value ∙ c.in_ok-seen.ensures)) (shown_in db.content w.view w.table c.requires.orderly.1))

@@ -4,6 +4,6 @@ use Rattle.session_machine.specs.Rows.{columns_in}
 use Rattle.session_machine.specs.Inner.Statements.{answer}
 use Rattle.session_statements.proofs.walk.end.Goals as goal
 
-pub returns-in-Some : goal.returns-in-Some
-returns-in-Some g c before same =
-    rw c.in-Some.is (c.halt.ensures before (answer (columns_in c.args.db.now c.args.work.now) (option_map (λ is. items_of is.now) c.args.items)) same)
+pub returns-in-Some-clause-did : goal.returns-in-Some-clause-did
+returns-in-Some-clause-did g c before same =
+    rw c.in-Some.is (c.halt.ensures.did before (answer (columns_in c.args.db.now c.args.work.now) (option_map (λ is. items_of is.now) c.args.items)) same)
