@@ -22,7 +22,6 @@ use std::marker::Model;
 
 /// Sessions over a store, in a run that is recorded. Contracts see it as what it was opened over, the machine's
 /// state and the history; the state is that to which the history leads from the opening.
-#[derive(Drop)]
 pub struct EngineState<'a, 't, V: Versions> {
     blocks: &'a [Block<'t>],
     count: u32,
@@ -32,6 +31,21 @@ pub struct EngineState<'a, 't, V: Versions> {
     history: Vec<HistItem<'t>>,
     /// Memory was refused in the middle of an event: nothing is known of the machine any more.
     spent: bool,
+}
+
+/// Written out, so that a crate that drops an engine calls this, and needn't prove anew how each of its parts is dropped.
+impl<'a, 't, V: Versions> Drop for EngineState<'a, 't, V> {
+    fn drop(self) {
+        let EngineState {
+            blocks: _,
+            count: _,
+            mode: _,
+            live: _,
+            kept: _,
+            history: _,
+            spent: _,
+        } = self;
+    }
 }
 
 impl<'a, 't, V: Versions> Model for EngineState<'a, 't, V> {
