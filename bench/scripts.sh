@@ -124,7 +124,7 @@ def outcomes():
     for words, status in ((["--help"], 0), (["--nothing"], 2), (["--limit"], 2)):
         ran = run([f"{here}/outcomes", *words], b"")
         said = ran.stderr if status else ran.stdout
-        case(f"{' '.join(['outcomes', *words])}: how to call it, with status {status}", ran.returncode == status and said.startswith(b"outcomes [--serial]"))
+        case(f"{' '.join(['outcomes', *words])}: how to call it, with status {status}", ran.returncode == status and said.startswith(b"outcomes [--html]"))
 
 
 def links():

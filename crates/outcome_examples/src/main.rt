@@ -37,7 +37,7 @@ fn text_or_none<R: Runtime + AllocGlobal>(rt: &R, path: &str) -> Result<String> 
 fn said_of<R: Runtime + AllocGlobal>(rt: &R, name: &str) -> Result<String> {
     let alloc = rt.alloc();
     let spec = fs::read(rt, format!(in alloc; "specs/{name}.spec")?.as_str())?;
-    match answer_of(alloc, spec.as_slice(), LIMIT) {
+    match answer_of(alloc, spec.as_slice(), LIMIT, false) {
         Ok(answer) => Ok(answer.text),
         Err(fault) => Ok(format!(in alloc; "{fault}\n")?),
     }

@@ -1,6 +1,7 @@
 //! What can happen in a file.
 
 use crate::heading::not_serial;
+use crate::html::html_of;
 use crate::page::text_of;
 use permutations::{RunFault, read_file};
 use run_outcomes::outcomes_of;
@@ -13,11 +14,21 @@ pub struct Answer {
     pub serial: bool,
 }
 
-/// Runs the permutations of the spec file that these bytes are, up to so many, and says what can happen.
-pub fn answer_of(alloc: Global, bytes: &[u8], limit: u64) -> Result<Answer, RunFault> {
+/// Runs the permutations of the spec file that these bytes are, up to so many, and says what can happen: as text, or as a page of
+/// HTML.
+pub fn answer_of(
+    alloc: Global,
+    bytes: &[u8],
+    limit: u64,
+    is_html: bool,
+) -> Result<Answer, RunFault> {
     let file = read_file(alloc, bytes)?;
     let outcomes = outcomes_of(alloc, &file.spec, &file.blocks, limit)?;
-    let text = text_of(alloc, &file.spec, &outcomes)?;
+    let text = if is_html {
+        html_of(alloc, &file.spec, &outcomes)?
+    } else {
+        text_of(alloc, &file.spec, &outcomes)?
+    };
     let serial = not_serial(&outcomes) == 0;
     Ok(Answer { text, serial })
 }

@@ -24,7 +24,7 @@ fn distance(a: &RunOutcome<'_>, b: &RunOutcome<'_>) -> usize {
 }
 
 /// The place of the order whose outcome differs least.
-fn nearest_of(orders: &[SerialOrder<'_>], outcome: &RunOutcome<'_>) -> Option<usize> {
+pub fn nearest_of(orders: &[SerialOrder<'_>], outcome: &RunOutcome<'_>) -> Option<usize> {
     let mut nearest = None;
     let mut least = usize::MAX;
     for (at, order) in orders.iter().enumerate() {
@@ -53,7 +53,7 @@ fn put_where(
 }
 
 /// Puts in what the order's outcome differs.
-fn put_differences(
+pub fn put_differences(
     alloc: Global,
     out: &mut String,
     steps: &[String],

@@ -1,5 +1,5 @@
-//! What can happen, as text: the outcomes side by side with what each step answered, or one below the other where they are many.
-//! Nothing is promised but that it is safe and ends.
+//! What can happen, as text: the outcomes side by side with what each step answered, or one below the other where they are many. And
+//! as a page of HTML, with the interleaving of each outcome drawn. Nothing is promised but that it is safe and ends.
 #![tactic(auto)]
 
 mod answer;
@@ -7,6 +7,9 @@ mod cells;
 mod columns;
 mod details;
 mod heading;
+mod html;
+mod interleaving;
+mod markup;
 mod names;
 mod page;
 

@@ -1,4 +1,4 @@
-//! The whole text.
+//! The whole text, and the lines of its table.
 
 use crate::cells::{answers_cell, table_cell};
 use crate::columns::{Line, put_columns};
@@ -114,7 +114,7 @@ fn verdict_line(
 }
 
 /// The lines of some outcomes, of which the first has this number.
-fn lines_of(
+pub fn lines_of(
     alloc: Global,
     spec: &Spec<'_>,
     steps: &[String],

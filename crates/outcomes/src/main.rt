@@ -19,16 +19,16 @@ const WORDS_REFUSED: u8 = 2;
 const NOT_SERIAL: u8 = 4;
 
 /// Reads the file, and says what can happen in it.
-fn read_and_answer<R: Runtime + AllocGlobal>(rt: &R, limit: u64) -> Result<Answer, RunFault> {
+fn read_and_answer<R: Runtime + AllocGlobal>(rt: &R, request: Request) -> Result<Answer, RunFault> {
     let alloc = rt.alloc();
     let mut input = FromStd::new(rt.reader());
     let bytes = read_all(alloc, &mut input, LONGEST_FILE + 1)?;
-    answer_of(alloc, bytes.as_slice(), limit)
+    answer_of(alloc, bytes.as_slice(), request.limit, request.html)
 }
 
 /// Prints what can happen, and gives the exit status.
 fn run<R: Runtime + AllocGlobal>(rt: &R, request: Request) -> io::Result<u8> {
-    match read_and_answer(rt, request.limit) {
+    match read_and_answer(rt, request) {
         Ok(answer) => {
             let text = answer.text.as_str();
             print!(rt; "{text}")?;

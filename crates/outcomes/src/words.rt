@@ -3,11 +3,12 @@
 /// So many permutations run at most, unless the command line says otherwise.
 const DEFAULT_LIMIT: u64 = 1_000_000;
 
-pub const USAGE: &str = "outcomes [--serial] [--limit N] < FILE
+pub const USAGE: &str = "outcomes [--html] [--serial] [--limit N] < FILE
 
 Runs the permutations of a spec file, and says what can happen: each outcome with what its steps answered and what the
 tables hold, how many permutations have it, and whether it is that of a serial order of the transactions.
 
+  --html     print a page of HTML that fetches nothing, with the interleaving of each outcome
   --serial   end with status 4 where an outcome is that of no serial order
   --limit N  stop after N permutations, 1000000 if N is not given
   --help     print this
@@ -22,6 +23,7 @@ Exit status:
 /// What the command line asks for.
 #[derive(Clone, Copy)]
 pub struct Request {
+    pub html: bool,
     pub serial: bool,
     pub help: bool,
     pub limit: u64,
@@ -30,6 +32,7 @@ pub struct Request {
 /// What the words ask for, of which the first is the program's name; none where they are no call.
 pub fn request_of(words: &[String]) -> Option<Request> {
     let mut request = Request {
+        html: false,
         serial: false,
         help: false,
         limit: DEFAULT_LIMIT,
@@ -39,6 +42,8 @@ pub fn request_of(words: &[String]) -> Option<Request> {
         if is_limit {
             request.limit = u64::from(word.as_str().parse::<u32>().ok()?);
             is_limit = false;
+        } else if word.as_str() == "--html" {
+            request.html = true;
         } else if word.as_str() == "--serial" {
             request.serial = true;
         } else if word.as_str() == "--limit" {
