@@ -7,7 +7,7 @@ _isolationtester() {
 _outcomes() {
   local word=${COMP_WORDS[COMP_CWORD]}
   if [[ ${COMP_WORDS[COMP_CWORD - 1]} == --limit ]]; then return; fi
-  mapfile -t COMPREPLY < <(compgen -W "--serial --limit --help" -- "$word")
+  mapfile -t COMPREPLY < <(compgen -W "--html --serial --limit --help" -- "$word")
 }
 _timeline() {
   local word=${COMP_WORDS[COMP_CWORD]}
