@@ -9,7 +9,7 @@ use permutation_lists::{Interleavings, line_of};
 use permutation_plans::{FreeLaunches, Launches, free_fits, launches_fit};
 use query_results::{ResultSet, Title};
 use report_lines::{PermutationRun, RunState, report};
-use report_text::{Ended, write_free, write_permutation};
+use report_text::{Ended, write_free, write_report};
 use result_tables::write_table;
 use session_machine::{Event, HistItem, Order, Outcome};
 use spec_parser::{Entry, Spec, parse_spec};
@@ -201,7 +201,7 @@ fn text_is_written(
     let spec = one_step(alloc)?;
     let mut out = Page::new(alloc);
     let mut notes = Page::new(alloc);
-    let ended = write_permutation(alloc, &spec, entries, items, &mut out, &mut notes);
+    let ended = write_report(alloc, &spec, entries, items, &mut out, &mut notes);
     Ok(matches!(ended, Ok(Ended::Whole)))
 }
 

@@ -6,7 +6,7 @@ ghost use Rattle.query_results.specs.Results.{IsEven};
 use crate::histories::{done, holds, item, last, launch, leave, waits};
 use iso_lexer::{Ident, Name};
 use query_results::{ResultSet, Title};
-use report_text::{Ended, ReportFault, write_permutation};
+use report_text::{Ended, ReportFault, write_report};
 use session_machine::{Event, HistItem, Outcome, StmtFault};
 use spec_parser::{Entry, Spec, parse_spec};
 use sql_values::{Row, Value};
@@ -66,7 +66,7 @@ pub(crate) fn report(
     };
     let mut out = Takes::new(puts.0);
     let mut notes = Takes::new(puts.1);
-    let ended = write_permutation(alloc, &spec, entries_of(&spec), items, &mut out, &mut notes);
+    let ended = write_report(alloc, &spec, entries_of(&spec), items, &mut out, &mut notes);
     Ok(Reported {
         out,
         notes,

@@ -19,4 +19,4 @@ mod teardowns;
 
 pub use fault::{Ended, ReportFault};
 pub use free::write_free;
-pub use permutation::write_permutation;
+pub use permutation::write_report;

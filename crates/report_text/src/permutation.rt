@@ -170,7 +170,7 @@ pub fn put_said<W: Sink, N: Sink>(
 
 /// Writes the report of a permutation with its history, and the notes on its teardowns, and nothing else. A setup that
 /// fails or waits ends it, with the report up to there.
-pub fn write_permutation<W: Sink, N: Sink>(
+pub fn write_report<W: Sink, N: Sink>(
     alloc: Global,
     spec: &Spec<'_>,
     entries: &[Entry],

@@ -1,5 +1,5 @@
 //! The transactions that wait.
-ghost use Rattle.std.specs.Prelude.{◌≡◌, ◌↔◌, ℕ, IsTrue, true, List, [], ◌∷◌, ◌++◌, OnOk, OnErr, IfOk, not, find, option_map, slice_get};
+ghost use Rattle.std.specs.Prelude.{◌≡◌, ◌≢◌, ◌↔◌, ℕ, IsTrue, true, List, [], ◌∷◌, ◌++◌, OnOk, OnErr, IfOk, not, find, option_map, slice_get};
 ghost use Rattle.places.specs.Noted.{noted};
 ghost use Rattle.ordered_slots.specs.Kept.{kept};
 ghost use Rattle.row_locks.specs.Waiting.{Waiting, is_free, waits_without, with_blockers};
@@ -85,10 +85,14 @@ impl Waits {
     }
 
     /// Whether a wait of the transaction for these would close a cycle: it is reached from one of them through the
-    /// blockers of those that wait.
+    /// blockers of those that wait. A wait for nobody closes none, and takes no memory.
     pub fn closes(&self, tx: TxId, blockers: &[TxId]) -> Result<bool, AllocError>
-        ensures { IfOk result (λ yes. IsTrue yes ↔ Closes (blocks self.now) tx blockers.now) }
+        ensures cycle { IfOk result (λ yes. IsTrue yes ↔ Closes (blocks self.now) tx blockers.now) }
+        ensures memory { OnErr result (blockers.now ≢ []) }
     {
+        if blockers.is_empty() {
+            return Ok(false);
+        }
         let mut reached = Vec::from_slice(self.alloc, blockers)?;
         let mut next = 0;
         while next < reached.len() {

@@ -128,7 +128,7 @@ fn serve_in<
 }
 
 /// Serves the runs in a scope, and gives the seats back; the first are the control session's.
-fn serve<
+fn serve_runs<
     E: Engine + Send,
     S: SeatAt<E> + Send,
     O: Orderings + Send,
@@ -308,7 +308,7 @@ fn run_in<
         ended,
     } = room;
     let runs = begin_each(alloc, &board, opened, runs);
-    let mut columns = serve(rt, alloc, &runs, &board, gate, columns);
+    let mut columns = serve_runs(rt, alloc, &runs, &board, gate, columns);
     turn_round(&mut columns);
     ended_of_each(alloc, runs, &mut columns, ended)
 }

@@ -161,7 +161,7 @@ fn start_scripts<
 }
 
 /// Serves the seats in a scope, and gives them back.
-fn serve<
+fn run_threads<
     E: Engine + Send,
     S: SeatAt<E> + Send,
     P: Scripting + Send,
@@ -210,7 +210,7 @@ fn run_scripting<
     let shared: FreeShared<'_, E, P> = FreeShared::new(engine, progress);
     let lock = Mutex::new(shared);
     let bell = Condvar::new();
-    let seats = serve(rt, alloc, &lock, &bell, gate, seats);
+    let seats = run_threads(rt, alloc, &lock, &bell, gate, seats);
     joined_of(lock.into_inner(), seats)
 }
 

@@ -6,7 +6,7 @@ ghost use Rattle.spec_files.specs.Written.{IsWritten};
 
 use crate::fault::RunFault;
 use iso_lexer::Sink;
-use report_text::{Ended, write_permutation as write_report};
+use report_text::{Ended, write_report};
 use session_machine::HistItem;
 use spec_parser::{Entry, Spec};
 use std::alloc::Global;

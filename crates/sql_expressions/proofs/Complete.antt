@@ -15,7 +15,7 @@ use Rattle.sql_trees.specs.Trees.{Tree, Trees, Column, Plus, Not, Binary, Is, In
 use Rattle.sql_expressions.specs.Build.{negated, push}
 use Rattle.sql_expressions.specs.Readers.{is_sign, after}
 use Rattle.sql_expressions.specs.Reading.{comparison_op, truth_of, expr_at}
-use Rattle.sql_expressions.specs.Inner.Pieces.{Found, name_at, Found_list, Reader, deeper, next_op, is_not, is_is, column_at, parens_at, prim_of, prim_at, sign_at, una_of, una_at, mul_at, add_at, cat_at, in_at, between_at, inn_of, inn_more, inn_at, cmp_at, is_more, is_at, negation_at, not_at, and_at, or_at, inside, list_at, list_more, chain_more}
+use Rattle.sql_expressions.specs.Inner.Pieces.{Found, name_at, Found_list, Reader, deeper, next_op, is_not, is_is, column_at, parens_at, prim_of, prim_at, sign_at, una_of, una_at, mul_at, add_at, cat_at, in_at, between_at, inn_of, inn_more, inn_at, cmp_at, maybe_is, is_at, negation_at, not_at, and_at, or_at, inside, list_at, list_more, chain_more}
 use Rattle.sql_expressions.specs.Inner.Pieces as reading
 use Rattle.sql_expressions.specs.Grammar.{IsWord, Ends, may_go_on, Level, OR, AND, NOT, IS, CMP, INN, CAT, ADD, MUL, UNA, PRIM, tighter, operator_at, Spells, SpellsIn, only, chain, negation, is, comparison, contained, between, minus, plus, parens, literal, Items, one, next, IsLeaf, number, text, column, yes, no, null, IsIn, IsBetween, IsIs}
 use Rattle.sql_expressions.proofs.Same.{expr_same, is_part}
@@ -283,7 +283,7 @@ module _ (last : ℕ) where
       of_tok (tok.sign signs.Plus) h = absurd cc
       of_tok _ h = refl
 
-  pub is_end : (n : ℕ) (a : Found) (rest : Tokens) → Stops IS rest → is_more last a rest ≡ Ok a
+  pub is_end : (n : ℕ) (a : Found) (rest : Tokens) → Stops IS rest → maybe_is last a rest ≡ Ok a
   is_end n a [] s = refl
   is_end n a (t ∷ ts) s = rw (or_false (own IS t.tok) _ s).0 refl
 

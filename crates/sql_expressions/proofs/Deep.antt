@@ -19,7 +19,7 @@ use Rattle.sql_expressions.specs.Build.{negated}
 use Rattle.sql_expressions.specs.Results.{◌>>=◌}
 use Rattle.sql_expressions.specs.Readers.{expect, misplaced, left_out, is_sign, place_of, after}
 use Rattle.sql_expressions.specs.Reading.{comparison_op, is_call, truth_of, expr_at}
-use Rattle.sql_expressions.specs.Inner.Pieces.{Found, Found_op, Found_list, or_op, and_op, concat_op, sum_op, product_op, Reader, leaf, deeper, join, next_op, found_op, is_and, is_not, is_is, column_at, name_at, parens_at, prim_of, prim_at, sign_at, una_of, una_at, mul_at, add_at, cat_at, in_at, between_at, not_in_of, not_in_at, inn_of, inn_more, inn_at, cmp_more, cmp_at, is_node, is_of, is_tail, is_from, is_more, is_at, negation_at, not_at, and_at, or_at, at_level, inside, list_at, list_more, list_turn, chain, chain_more, chain_end, chain_turn}
+use Rattle.sql_expressions.specs.Inner.Pieces.{Found, Found_op, Found_list, or_op, and_op, concat_op, sum_op, product_op, Reader, leaf, deeper, join, next_op, found_op, is_and, is_not, is_is, column_at, name_at, parens_at, prim_of, prim_at, sign_at, una_of, una_at, mul_at, add_at, cat_at, in_at, between_at, not_in_of, not_in_at, inn_of, inn_more, inn_at, cmp_more, cmp_at, is_node, truth_test, after_is, is_from, maybe_is, is_at, negation_at, not_at, and_at, or_at, at_level, inside, list_at, list_more, list_turn, chain, chain_more, chain_end, chain_turn}
 use Rattle.sql_expressions.specs.Grammar.{OR, AND, NOT, ADD, MUL, UNA, Spells, may_go_on}
 use Rattle.sql_expressions.specs.Laws.{Makes}
 use Rattle.sql_expressions.proofs.Same.{seen, expr_same}
@@ -337,33 +337,33 @@ module _ (last n : ℕ) (inside' : Opened → ℕ → Reader) (opens : Opens las
   is_node_tells M None neg e d t ts = refused M (t ∷ ts)
   is_node_tells M (Some w) neg e d t ts = given M _
 
-  is_of_tells : (M : ℕ → Type 0) (neg : Bool) (e : Tree) (d : ℕ) (ts : Tokens) → Deep M (is_of last neg e d ts)
-  is_of_tells M neg e d [] = refused M []
-  is_of_tells M neg e d (t ∷ ts) = is_node_tells M (truth_of t.tok) neg e d t ts
+  truth_test_tells : (M : ℕ → Type 0) (neg : Bool) (e : Tree) (d : ℕ) (ts : Tokens) → Deep M (truth_test last neg e d ts)
+  truth_test_tells M neg e d [] = refused M []
+  truth_test_tells M neg e d (t ∷ ts) = is_node_tells M (truth_of t.tok) neg e d t ts
 
-  is_tail_tells : (M : ℕ → Type 0) (e : Tree) (d : ℕ) (ts : Tokens) → Deep M (is_tail last e d ts)
-  is_tail_tells M e d [] = is_of_tells M false e d []
-  is_tail_tells M e d (t ∷ ts) = of_test (is_not t.tok)
+  after_is_tells : (M : ℕ → Type 0) (e : Tree) (d : ℕ) (ts : Tokens) → Deep M (after_is last e d ts)
+  after_is_tells M e d [] = truth_test_tells M false e d []
+  after_is_tells M e d (t ∷ ts) = of_test (is_not t.tok)
     where
-      of_test : (b : Bool) → Deep M (if b then is_of last true e d ts else is_of last false e d (t ∷ ts))
-      of_test true = is_of_tells M true e d ts
-      of_test false = is_of_tells M false e d (t ∷ ts)
+      of_test : (b : Bool) → Deep M (if b then truth_test last true e d ts else truth_test last false e d (t ∷ ts))
+      of_test true = truth_test_tells M true e d ts
+      of_test false = truth_test_tells M false e d (t ∷ ts)
 
   is_goes : (t : Token) → is_is t ≡ true → may_go_on t ≡ true
   is_goes (tok.word words.Is s) e = refl
   is_goes _ e = absurd cc
 
-  is_more_tells : (a : Found) (ts : Tokens) → Deep (λ q. Makes q ts) (is_more last a ts)
-  is_more_tells a [] = given _ a
-  is_more_tells a (t ∷ ts) = of_test (is_is t.tok) refl
+  maybe_is_tells : (a : Found) (ts : Tokens) → Deep (λ q. Makes q ts) (maybe_is last a ts)
+  maybe_is_tells a [] = given _ a
+  maybe_is_tells a (t ∷ ts) = of_test (is_is t.tok) refl
     where
       of_test : (b : Bool) → is_is t.tok ≡ b → Deep (λ q. Makes q (t ∷ ts)) (if b then is_from last t.span.start a ts else Ok a)
-      of_test true h = next_in _ (deeper t.span.start a.depth) _ (tested _ t.span.start a.depth (here t ts (is_goes t.tok h))) (λ d is. is_tail_tells _ a.tree d ts)
+      of_test true h = next_in _ (deeper t.span.start a.depth) _ (tested _ t.span.start a.depth (here t ts (is_goes t.tok h))) (λ d is. after_is_tells _ a.tree d ts)
       of_test false h = given _ a
 
   is_tells : Tells (is_at last inside')
   unfolding is_at
-  is_tells ts = next_in _ (cmp_at last inside' ts) _ (cmp_tells ts) (λ a is. up _ _ (is_more last a a.rest) (λ q m. from q ts a.rest (took_end _ ts a (cmp_sound last n inside' opens ts a is)) m) (is_more_tells a a.rest))
+  is_tells ts = next_in _ (cmp_at last inside' ts) _ (cmp_tells ts) (λ a is. up _ _ (maybe_is last a a.rest) (λ q m. from q ts a.rest (took_end _ ts a (cmp_sound last n inside' opens ts a is)) m) (maybe_is_tells a a.rest))
 
   not_goes : (t : Token) → is_not t ≡ true → may_go_on t ≡ true
   not_goes (tok.word words.Not s) e = refl

@@ -17,7 +17,7 @@ use Rattle.sql_expressions.specs.Build.{negated}
 use Rattle.sql_expressions.specs.Results.{◌>>=◌}
 use Rattle.sql_expressions.specs.Readers.{expect, is_sign, place_of}
 use Rattle.sql_expressions.specs.Reading.{Part, is_call, comparison_op, truth_of, expr_at}
-use Rattle.sql_expressions.specs.Inner.Pieces.{Found, name_at, Found_op, Found_list, Reader, leaf, deeper, join, next_op, is_and, is_not, is_is, column_at, parens_at, prim_of, prim_at, sign_at, una_of, una_at, mul_at, add_at, cat_at, in_at, between_at, not_in_of, not_in_at, inn_of, inn_more, inn_at, cmp_more, cmp_at, is_node, is_of, is_tail, is_from, is_more, is_at, negation_at, not_at, and_at, or_at, at_level, inside, list_at, list_more}
+use Rattle.sql_expressions.specs.Inner.Pieces.{Found, name_at, Found_op, Found_list, Reader, leaf, deeper, join, next_op, is_and, is_not, is_is, column_at, parens_at, prim_of, prim_at, sign_at, una_of, una_at, mul_at, add_at, cat_at, in_at, between_at, not_in_of, not_in_at, inn_of, inn_more, inn_at, cmp_more, cmp_at, is_node, truth_test, after_is, is_from, maybe_is, is_at, negation_at, not_at, and_at, or_at, at_level, inside, list_at, list_more}
 use Rattle.sql_expressions.specs.Grammar.{Begins, IsWord, Level, OR, AND, NOT, IS, CMP, INN, CAT, ADD, MUL, UNA, PRIM, Spells, only, chain, negation, is, comparison, contained, between, minus, plus, parens, literal, Items, one, next, IsLeaf, number, text, column, yes, no, null, IsIn, IsBetween, IsIs}
 use Rattle.sql_expressions.proofs.Steps.{bind_ok, deeper_ok, expect_ok, is_close_true, is_open_true, is_and_true, is_not_true, is_is_true}
 use Rattle.sql_expressions.proofs.Same.{as_found, seen, expr_same}
@@ -231,30 +231,30 @@ module _ (last n : ℕ) (inside' : Opened → ℕ → Reader) where
         subst (Took (Spells n IS) ts) same (extend (Spells n CMP) (Spells n IS) ts (ws ++ t ∷ []) a made k (w ∙ sym (append_assoc ws (t ∷ []) us))
         (is k.front ws t no' truth a.tree a.depth k.spells i h lt))
 
-    is_of_sound : (no' : Bool) (ws ts us : Tokens) (a f : Found) (k : Took (Spells n CMP) ts a) → a.depth < MAX_DEPTH → a.rest ≡ ws ++ us → IsIs no' ws → is_of last no' a.tree (a.depth + 1) us ≡ Ok f → Took (Spells n IS) ts f
-    is_of_sound no' ws ts [] a f k lt w i e = absurd cc
-    is_of_sound no' ws ts (t ∷ us) a f k lt w i e = is_node_sound (truth_of t.tok) no' ws ts us t a f k lt refl w i e
+    truth_test_sound : (no' : Bool) (ws ts us : Tokens) (a f : Found) (k : Took (Spells n CMP) ts a) → a.depth < MAX_DEPTH → a.rest ≡ ws ++ us → IsIs no' ws → truth_test last no' a.tree (a.depth + 1) us ≡ Ok f → Took (Spells n IS) ts f
+    truth_test_sound no' ws ts [] a f k lt w i e = absurd cc
+    truth_test_sound no' ws ts (t ∷ us) a f k lt w i e = is_node_sound (truth_of t.tok) no' ws ts us t a f k lt refl w i e
 
-    is_tail_sound : (ts us : Tokens) (t : At Token) (a f : Found) (k : Took (Spells n CMP) ts a) → a.depth < MAX_DEPTH → IsWord words.Is t.tok → a.rest ≡ t ∷ us → is_tail last a.tree (a.depth + 1) us ≡ Ok f → Took (Spells n IS) ts f
-    is_tail_sound ts [] t a f k lt h w e = absurd cc
-    is_tail_sound ts (u ∷ us) t a f k lt h w e = of_test (is_not u.tok) refl e
+    after_is_sound : (ts us : Tokens) (t : At Token) (a f : Found) (k : Took (Spells n CMP) ts a) → a.depth < MAX_DEPTH → IsWord words.Is t.tok → a.rest ≡ t ∷ us → after_is last a.tree (a.depth + 1) us ≡ Ok f → Took (Spells n IS) ts f
+    after_is_sound ts [] t a f k lt h w e = absurd cc
+    after_is_sound ts (u ∷ us) t a f k lt h w e = of_test (is_not u.tok) refl e
       where
-        of_test : (b : Bool) → is_not u.tok ≡ b → (let r : Result Found SqlFault = if b then is_of last true a.tree (a.depth + 1) us else is_of last false a.tree (a.depth + 1) (u ∷ us) in r ≡ Ok f) → Took (Spells n IS) ts f
-        of_test true g q = is_of_sound true (t ∷ u ∷ []) ts us a f k lt w (t, u, refl, h, is_not_true u.tok g) q
-        of_test false g q = is_of_sound false (t ∷ []) ts (u ∷ us) a f k lt w (t, refl, h) q
+        of_test : (b : Bool) → is_not u.tok ≡ b → (let r : Result Found SqlFault = if b then truth_test last true a.tree (a.depth + 1) us else truth_test last false a.tree (a.depth + 1) (u ∷ us) in r ≡ Ok f) → Took (Spells n IS) ts f
+        of_test true g q = truth_test_sound true (t ∷ u ∷ []) ts us a f k lt w (t, u, refl, h, is_not_true u.tok g) q
+        of_test false g q = truth_test_sound false (t ∷ []) ts (u ∷ us) a f k lt w (t, refl, h) q
 
     is_from_sound : (ts us : Tokens) (t : At Token) (a f : Found) (k : Took (Spells n CMP) ts a) → IsWord words.Is t.tok → a.rest ≡ t ∷ us → is_from last t.span.start a us ≡ Ok f → Took (Spells n IS) ts f
     is_from_sound ts us t a f k h w e =
-        let s = bind_ok (deeper t.span.start a.depth) (λ d. is_tail last a.tree d us) f e in
+        let s = bind_ok (deeper t.span.start a.depth) (λ d. after_is last a.tree d us) f e in
         let d = deeper_ok t.span.start a.depth s.0 s.1 in
-        is_tail_sound ts us t a f k d.0 h w (subst (λ x. is_tail last a.tree x us ≡ Ok f) d.1 s.2)
+        after_is_sound ts us t a f k d.0 h w (subst (λ x. after_is last a.tree x us ≡ Ok f) d.1 s.2)
 
     up_is : (ts : Tokens) (a f : Found) → Took (Spells n CMP) ts a → (let r : Result Found SqlFault = Ok a in r ≡ Ok f) → Took (Spells n IS) ts f
     up_is ts a f k h = let same : a ≡ f = cc in subst (Took (Spells n IS) ts) same (took_up (Spells n CMP) (Spells n IS) (λ us x c p. only IS us x c p) ts a k)
 
-    is_more_sound : (ts us : Tokens) (a f : Found) (k : Took (Spells n CMP) ts a) → a.rest ≡ us → is_more last a us ≡ Ok f → Took (Spells n IS) ts f
-    is_more_sound ts [] a f k w e = up_is ts a f k e
-    is_more_sound ts (t ∷ us) a f k w e = of_test (is_is t.tok) refl e
+    maybe_is_sound : (ts us : Tokens) (a f : Found) (k : Took (Spells n CMP) ts a) → a.rest ≡ us → maybe_is last a us ≡ Ok f → Took (Spells n IS) ts f
+    maybe_is_sound ts [] a f k w e = up_is ts a f k e
+    maybe_is_sound ts (t ∷ us) a f k w e = of_test (is_is t.tok) refl e
       where
         of_test : (b : Bool) → is_is t.tok ≡ b → (let r : Result Found SqlFault = if b then is_from last t.span.start a us else Ok a in r ≡ Ok f) → Took (Spells n IS) ts f
         of_test true g q = is_from_sound ts us t a f k (is_is_true t.tok g) w q
@@ -263,8 +263,8 @@ module _ (last n : ℕ) (inside' : Opened → ℕ → Reader) where
     is_sound : Sound (Spells n IS) (is_at last inside')
     unfolding is_at
     is_sound ts f e =
-        let s = bind_ok (cmp_at last inside' ts) (λ a. is_more last a a.rest) f e in
-        is_more_sound ts s.0.rest s.0 f (cmp_sound ts s.0 s.1) refl s.2
+        let s = bind_ok (cmp_at last inside' ts) (λ a. maybe_is last a a.rest) f e in
+        maybe_is_sound ts s.0.rest s.0 f (cmp_sound ts s.0 s.1) refl s.2
 
     negation_sound : (t : At Token) (ts : Tokens) (f : Found) → IsWord words.Not t.tok → negation_at last inside' t.span.start ts ≡ Ok f → Took (Spells n NOT) (t ∷ ts) f
     unfolding negation_at

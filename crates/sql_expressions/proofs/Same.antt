@@ -24,7 +24,7 @@ use Rattle.sql_expressions.specs.Results.{◌>>=◌, Gives}
 use Rattle.sql_expressions.specs.Readers.{Reader, made, is_word, is_sign, either, by_first, one_at, gives, added, more_at, items_at, place_of, misplaced, expect, keyword, closed}
 use Rattle.sql_expressions.specs.Reading.{Part, trees_in, shallow, node, literal_of, truth_of, agg_kind, operators, comparison_op, within_opening, expr_at}
 use Rattle.sql_expressions.specs.Reading as reading
-use Rattle.sql_expressions.specs.Inner.Pieces.{Found, Found_list, leaf, is_and, is_not, is_is, deeper, join, found_op, next_op, chain_end, chain_turn, chain_more, chain, list_turn, list_more, list_at, column_at, name_at, is_node, is_of, is_tail, is_more, parens_at, prim_of, prim_at, sign_at, una_of, una_at, mul_at, add_at, cat_at, in_at, between_at, not_in_of, not_in_at, not_in_from, inn_of, inn_more, inn_at, cmp_more, cmp_at, is_at, negation_at, not_at, and_at, or_at, inside}
+use Rattle.sql_expressions.specs.Inner.Pieces.{Found, Found_list, leaf, is_and, is_not, is_is, deeper, join, found_op, next_op, chain_end, chain_turn, chain_more, chain, list_turn, list_more, list_at, column_at, name_at, is_node, truth_test, after_is, maybe_is, parens_at, prim_of, prim_at, sign_at, una_of, una_at, mul_at, add_at, cat_at, in_at, between_at, not_in_of, not_in_at, not_in_from, inn_of, inn_more, inn_at, cmp_more, cmp_at, is_at, negation_at, not_at, and_at, or_at, inside}
 
 -- ---- what a part that was read is to the code
 
@@ -232,7 +232,7 @@ module _ (last : ℕ) where
   abbrev is_behind : Part → Reader Part
   is_behind a ts = either (is_word words.Is) (λ us. shallow (place_of last ts) a.depth us >>= λ vs. either (is_word words.Not) (gives true) (gives false) vs >>= λ n. asked_at n.0 (place_of last ts) a n.1) (gives a) ts
 
-  truth_same : (neg : Bool) (place : ℕ) (a : Part) (ts : Tokens) → a.depth < MAX_DEPTH → Same (asked_at neg place a ts) (is_of last neg a.tree (a.depth + 1) ts)
+  truth_same : (neg : Bool) (place : ℕ) (a : Part) (ts : Tokens) → a.depth < MAX_DEPTH → Same (asked_at neg place a ts) (truth_test last neg a.tree (a.depth + 1) ts)
   truth_same neg place a [] l = refl
   truth_same neg place a (t ∷ ts) l = of_truth (truth_of t.tok)
     where
@@ -240,19 +240,19 @@ module _ (last : ℕ) where
       of_truth None = refl
       of_truth (Some w) = rw (is_shallow place a.depth ts l) refl
 
-  is_tail_same : (place : ℕ) (a : Part) (ts : Tokens) → a.depth < MAX_DEPTH → Same (either (is_word words.Not) (gives true) (gives false) ts >>= λ n. asked_at n.0 place a n.1) (is_tail last a.tree (a.depth + 1) ts)
-  is_tail_same place a [] l = truth_same false place a [] l
-  is_tail_same place a (t ∷ ts) l = of_test (is_not t.tok) (is_not_word t.tok)
+  after_is_same : (place : ℕ) (a : Part) (ts : Tokens) → a.depth < MAX_DEPTH → Same (either (is_word words.Not) (gives true) (gives false) ts >>= λ n. asked_at n.0 place a n.1) (after_is last a.tree (a.depth + 1) ts)
+  after_is_same place a [] l = truth_same false place a [] l
+  after_is_same place a (t ∷ ts) l = of_test (is_not t.tok) (is_not_word t.tok)
     where
-      of_test : (b : Bool) → is_word words.Not t.tok ≡ b → Same (either (is_word words.Not) (gives true) (gives false) (t ∷ ts) >>= λ n. asked_at n.0 place a n.1) (if b then is_of last true a.tree (a.depth + 1) ts else is_of last false a.tree (a.depth + 1) (t ∷ ts))
+      of_test : (b : Bool) → is_word words.Not t.tok ≡ b → Same (either (is_word words.Not) (gives true) (gives false) (t ∷ ts) >>= λ n. asked_at n.0 place a n.1) (if b then truth_test last true a.tree (a.depth + 1) ts else truth_test last false a.tree (a.depth + 1) (t ∷ ts))
       of_test true e = rw e (truth_same true place a ts l)
       of_test false e = rw e (truth_same false place a (t ∷ ts) l)
 
-  is_more_same : (a : Part) (ts : Tokens) → Same (is_behind a ts) (is_more last (as_found (a, ts)) ts)
-  is_more_same a [] = refl
-  is_more_same a (t ∷ ts) =
+  maybe_is_same : (a : Part) (ts : Tokens) → Same (is_behind a ts) (maybe_is last (as_found (a, ts)) ts)
+  maybe_is_same a [] = refl
+  maybe_is_same a (t ∷ ts) =
       either_same (is_word words.Is) (is_is t.tok) t ts (λ us. shallow t.span.start a.depth us >>= λ vs. either (is_word words.Not) (gives true) (gives false) vs >>= λ n. asked_at n.0 t.span.start a n.1) (λ us. Ok (a, us)) _ _ (is_is_word t.tok)
-      (shallow_lets t.span.start a.depth ts (λ vs. either (is_word words.Not) (gives true) (gives false) vs >>= λ n. asked_at n.0 t.span.start a n.1) (λ d. is_tail last a.tree d ts) (is_tail_same t.span.start a ts)) refl
+      (shallow_lets t.span.start a.depth ts (λ vs. either (is_word words.Not) (gives true) (gives false) vs >>= λ n. asked_at n.0 t.span.start a n.1) (λ d. after_is last a.tree d ts) (after_is_same t.span.start a ts)) refl
 
   call_same : (n : List ℕ) (t : At Token) (ts : Tokens) → Same (as_leaf (either (is_sign signs.Open) (λ vs. Err (LeftOut (place_of last (by_first agg_kind (λ k ws. t ∷ ts) (λ ws. ts) (t ∷ ts))))) (gives (Column n)) ts)) (column_at last t n ts)
   call_same n t [] = refl
@@ -405,7 +405,7 @@ module _ (last : ℕ) where
 
     is_same : (ts : Tokens) → Same (reading.is_at last within ts) (is_at last inside' ts)
     unfolding reading.is_at is_at
-    is_same ts = then_same (reading.cmp_at last within ts) (cmp_at last inside' ts) (λ x. is_behind x.0 x.1) (λ a. is_more last a a.rest) (cmp_same ts) (λ x. is_more_same x.0 x.1)
+    is_same ts = then_same (reading.cmp_at last within ts) (cmp_at last inside' ts) (λ x. is_behind x.0 x.1) (λ a. maybe_is last a a.rest) (cmp_same ts) (λ x. maybe_is_same x.0 x.1)
 
     not_same : (ts : Tokens) → Same (reading.not_at last within ts) (not_at last inside' ts)
     unfolding negation_at

@@ -18,7 +18,7 @@ use Rattle.sql_expressions.specs.Build.{negated}
 use Rattle.sql_expressions.specs.Results.{◌>>=◌}
 use Rattle.sql_expressions.specs.Readers.{expect, is_sign, place_of}
 use Rattle.sql_expressions.specs.Reading.{Part, comparison_op, truth_of, expr_at}
-use Rattle.sql_expressions.specs.Inner.Pieces.{Found, Found_list, Reader, leaf, deeper, join, next_op, is_and, is_not, is_is, column_at, name_at, parens_at, prim_of, prim_at, sign_at, una_of, una_at, mul_at, add_at, cat_at, in_at, between_at, not_in_of, not_in_at, inn_of, inn_more, inn_at, cmp_more, cmp_at, is_node, is_of, is_tail, is_more, is_at, negation_at, not_at, and_at, or_at, at_level, inside, list_at}
+use Rattle.sql_expressions.specs.Inner.Pieces.{Found, Found_list, Reader, leaf, deeper, join, next_op, is_and, is_not, is_is, column_at, name_at, parens_at, prim_of, prim_at, sign_at, una_of, una_at, mul_at, add_at, cat_at, in_at, between_at, not_in_of, not_in_at, inn_of, inn_more, inn_at, cmp_more, cmp_at, is_node, truth_test, after_is, maybe_is, is_at, negation_at, not_at, and_at, or_at, at_level, inside, list_at}
 use Rattle.sql_expressions.specs.Grammar.{IsWord, OR, AND, NOT, IS, CMP, INN, CAT, ADD, MUL, UNA, PRIM, IsLeaf, number, text, column, yes, no, null, IsIn, IsBetween, IsIs}
 use Rattle.sql_expressions.specs.Laws.{Spelled}
 use Rattle.sql_expressions.proofs.Same.{seen as seen_as, expr_same, is_part, is_fault}
@@ -46,15 +46,15 @@ module _ (last : ℕ) where
   is_null : (neg : Bool) → AfterIs neg (some_token (tok.word words.Null []) ∷ [])
   is_null neg fs ws s i = is_spelled fs ws (some_token (tok.word words.Null [])) neg truths.Null s i refl
 
-  is_node_local : (neg : Bool) (e : Tree) (d : ℕ) (t : At Token) (us : Tokens) (o : Option Truth) → truth_of t.tok ≡ o → Local last seen (AfterIs neg) (is_of last neg e d) (t ∷ us)
-  is_node_local neg e d t us None h = stuck_at last seen (AfterIs neg) (is_of last neg e d) t us (some_token (tok.word words.Null []) ∷ [], is_null neg) (λ vs. ap (λ o. is_node last o neg e d t vs) h)
+  is_node_local : (neg : Bool) (e : Tree) (d : ℕ) (t : At Token) (us : Tokens) (o : Option Truth) → truth_of t.tok ≡ o → Local last seen (AfterIs neg) (truth_test last neg e d) (t ∷ us)
+  is_node_local neg e d t us None h = stuck_at last seen (AfterIs neg) (truth_test last neg e d) t us (some_token (tok.word words.Null []) ∷ [], is_null neg) (λ vs. ap (λ o. is_node last o neg e d t vs) h)
   is_node_local neg e d t us (Some w) h =
-      behind last (Nothing last) (AfterIs neg) (λ vs. Ok (seen (Is e neg w, d) vs)) (is_of last neg e d) t us (λ xs n fs ws s i. rw n (is_spelled fs ws t neg w s i h)) (λ vs. ap (λ o. is_node last o neg e d t vs) h)
+      behind last (Nothing last) (AfterIs neg) (λ vs. Ok (seen (Is e neg w, d) vs)) (truth_test last neg e d) t us (λ xs n fs ws s i. rw n (is_spelled fs ws t neg w s i h)) (λ vs. ap (λ o. is_node last o neg e d t vs) h)
       (gives last seen (Nothing last) (Is e neg w, d) us refl)
 
-  is_of_local : (neg : Bool) (e : Tree) (d : ℕ) (ts : Tokens) → Local last seen (AfterIs neg) (is_of last neg e d) ts
-  is_of_local neg e d [] = stuck_end last seen (AfterIs neg) (is_of last neg e d) (some_token (tok.word words.Null []) ∷ [], is_null neg) refl
-  is_of_local neg e d (t ∷ us) = is_node_local neg e d t us (truth_of t.tok) refl
+  truth_test_local : (neg : Bool) (e : Tree) (d : ℕ) (ts : Tokens) → Local last seen (AfterIs neg) (truth_test last neg e d) ts
+  truth_test_local neg e d [] = stuck_end last seen (AfterIs neg) (truth_test last neg e d) (some_token (tok.word words.Null []) ∷ [], is_null neg) refl
+  truth_test_local neg e d (t ∷ us) = is_node_local neg e d t us (truth_of t.tok) refl
 
   -- behind a first IS
   abbrev BehindIs : At Token → Tokens → Type 0
@@ -66,23 +66,23 @@ module _ (last : ℕ) where
   is_not_up : (w t : At Token) → IsWord words.Is w.tok → IsWord words.Not t.tok → (xs : Tokens) → AfterIs true xs → BehindIs w (t ∷ xs)
   is_not_up w t h g xs m = λ fs s. m fs (w ∷ t ∷ []) s (w, t, refl, h, g)
 
-  is_tail_token : (w : At Token) (e : Tree) (d : ℕ) (t : At Token) (us : Tokens) (b : Bool) → IsWord words.Is w.tok → is_not t.tok ≡ b → Local last seen (BehindIs w) (is_tail last e d) (t ∷ us)
-  is_tail_token w e d t us true h g = behind last (AfterIs true) (BehindIs w) (is_of last true e d) (is_tail last e d) t us (is_not_up w t h (is_not_true t.tok g)) (λ vs. rw g refl) (is_of_local true e d us)
-  is_tail_token w e d t us false h g = switch_at last (AfterIs false) (BehindIs w) (is_of last false e d) (is_tail last e d) t us (is_up w h) (λ vs. rw g refl) (is_of_local false e d (t ∷ us))
+  after_is_token : (w : At Token) (e : Tree) (d : ℕ) (t : At Token) (us : Tokens) (b : Bool) → IsWord words.Is w.tok → is_not t.tok ≡ b → Local last seen (BehindIs w) (after_is last e d) (t ∷ us)
+  after_is_token w e d t us true h g = behind last (AfterIs true) (BehindIs w) (truth_test last true e d) (after_is last e d) t us (is_not_up w t h (is_not_true t.tok g)) (λ vs. rw g refl) (truth_test_local true e d us)
+  after_is_token w e d t us false h g = switch_at last (AfterIs false) (BehindIs w) (truth_test last false e d) (after_is last e d) t us (is_up w h) (λ vs. rw g refl) (truth_test_local false e d (t ∷ us))
 
-  is_tail_local : (w : At Token) (e : Tree) (d : ℕ) (ts : Tokens) → IsWord words.Is w.tok → Local last seen (BehindIs w) (is_tail last e d) ts
-  is_tail_local w e d [] h = switch_end last (AfterIs false) (BehindIs w) (is_of last false e d) (is_tail last e d) (is_up w h) refl (is_of_local false e d [])
-  is_tail_local w e d (t ∷ us) h = is_tail_token w e d t us (is_not t.tok) h refl
+  after_is_local : (w : At Token) (e : Tree) (d : ℕ) (ts : Tokens) → IsWord words.Is w.tok → Local last seen (BehindIs w) (after_is last e d) ts
+  after_is_local w e d [] h = switch_end last (AfterIs false) (BehindIs w) (truth_test last false e d) (after_is last e d) (is_up w h) refl (truth_test_local false e d [])
+  after_is_local w e d (t ∷ us) h = after_is_token w e d t us (is_not t.tok) h refl
 
-  is_more_token : (v : Tree × ℕ) (t : At Token) (us : Tokens) (b : Bool) → is_is t.tok ≡ b → Local last seen (Tail CMP IS) (λ r. is_more last (seen v r) r) (t ∷ us)
-  is_more_token v t us true h =
-      behind last (BehindIs t) (Tail CMP IS) (λ vs. deeper t.span.start v.1 >>= λ x. is_tail last v.0 x vs) (λ r. is_more last (seen v r) r) t us (λ xs m. m) (λ vs. rw h refl)
-      (deeper_then last seen (BehindIs t) t.span.start v.1 (λ x vs. is_tail last v.0 x vs) _ us (λ others. refl) (is_tail_local t v.0 (v.1 + 1) us (is_is_true t.tok h)))
-  is_more_token v t us false h = at_token last seen (Tail CMP IS) (λ r. is_more last (seen v r) r) (Ok v) t us (λ vs. rw h refl) (no_tail IS)
+  maybe_is_token : (v : Tree × ℕ) (t : At Token) (us : Tokens) (b : Bool) → is_is t.tok ≡ b → Local last seen (Tail CMP IS) (λ r. maybe_is last (seen v r) r) (t ∷ us)
+  maybe_is_token v t us true h =
+      behind last (BehindIs t) (Tail CMP IS) (λ vs. deeper t.span.start v.1 >>= λ x. after_is last v.0 x vs) (λ r. maybe_is last (seen v r) r) t us (λ xs m. m) (λ vs. rw h refl)
+      (deeper_then last seen (BehindIs t) t.span.start v.1 (λ x vs. after_is last v.0 x vs) _ us (λ others. refl) (after_is_local t v.0 (v.1 + 1) us (is_is_true t.tok h)))
+  maybe_is_token v t us false h = at_token last seen (Tail CMP IS) (λ r. maybe_is last (seen v r) r) (Ok v) t us (λ vs. rw h refl) (no_tail IS)
 
-  is_more_local : (v : Tree × ℕ) (ts : Tokens) → Local last seen (Tail CMP IS) (λ r. is_more last (seen v r) r) ts
-  is_more_local v [] = at_end last seen (Tail CMP IS) (λ r. is_more last (seen v r) r) (Ok v) refl (no_tail IS)
-  is_more_local v (t ∷ us) = is_more_token v t us (is_is t.tok) refl
+  maybe_is_local : (v : Tree × ℕ) (ts : Tokens) → Local last seen (Tail CMP IS) (λ r. maybe_is last (seen v r) r) ts
+  maybe_is_local v [] = at_end last seen (Tail CMP IS) (λ r. maybe_is last (seen v r) r) (Ok v) refl (no_tail IS)
+  maybe_is_local v (t ∷ us) = maybe_is_token v t us (is_is t.tok) refl
 
   -- ---- names
 
@@ -288,7 +288,7 @@ module _ (last : ℕ) where
 
     is_local : Reads last IS (is_at last inside')
     unfolding is_at
-    is_local ts = in_turn last (Spelled CMP) (Tail CMP IS) (Spelled IS) (cmp_at last inside') (λ a. is_more last a a.rest) ts ([], no_tail IS) (λ xs ys s m. m xs s) (cmp_local ts) (λ v is. is_more_local v _)
+    is_local ts = in_turn last (Spelled CMP) (Tail CMP IS) (Spelled IS) (cmp_at last inside') (λ a. maybe_is last a a.rest) ts ([], no_tail IS) (λ xs ys s m. m xs s) (cmp_local ts) (λ v is. maybe_is_local v _)
 
     -- ---- NOT, AND, OR
 

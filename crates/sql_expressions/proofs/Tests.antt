@@ -11,7 +11,7 @@ use Rattle.sql_expressions.specs.declared.level.Opened.{Opened}
 use Rattle.sql_expressions.specs.declared.level.Prefix.{Prefix}
 use Rattle.sql_expressions.specs.Results.{◌>>=◌}
 use Rattle.sql_expressions.specs.Reading.{comparison_op}
-use Rattle.sql_expressions.specs.Inner.Pieces.{Found, Reader, Found_op, deeper, next_op, prefix_of, placed_prefix, prefix_at, opened_of, prefixed_at, atom_at, parens_at, sign_at, una_of, una_at, inn_at, cmp_at, is_more, is_at, compared_at}
+use Rattle.sql_expressions.specs.Inner.Pieces.{Found, Reader, Found_op, deeper, next_op, prefix_of, placed_prefix, prefix_at, opened_of, prefixed_at, atom_at, parens_at, sign_at, una_of, una_at, inn_at, cmp_at, maybe_is, is_at, compared_at}
 
 module _ (last : ℕ) (inside : Opened → ℕ → Reader) where
   abbrev by_prefix : Option (Prefix × ℕ × Tokens) → Reader
@@ -47,7 +47,7 @@ module _ (last : ℕ) (inside : Opened → ℕ → Reader) where
   unfolding is_at cmp_at
   is_stops ts f e = rw e refl
 
-  pub is_alone : (ts : Tokens) (a : Found) → inn_at last inside ts ≡ Ok a → next_op comparison_op a.rest ≡ None → is_at last inside ts ≡ is_more last a a.rest
+  pub is_alone : (ts : Tokens) (a : Found) → inn_at last inside ts ≡ Ok a → next_op comparison_op a.rest ≡ None → is_at last inside ts ≡ maybe_is last a a.rest
   unfolding is_at cmp_at
   is_alone ts a e n = rw (e, n) refl
 

@@ -10,7 +10,7 @@ ghost use Rattle.sql_expressions.specs.Grammar.{Begins, Ends, Spells, OR};
 ghost use Rattle.sql_expressions.specs.Results.{Gives};
 ghost use Rattle.sql_expressions.specs.Readers.{expect};
 ghost use Rattle.sql_expressions.specs.Reading.{Part, part_of, operators, comparison_op, expr_at};
-ghost use Rattle.sql_expressions.specs.Inner.Pieces.{found, Found_op, Found_list, found_list, found_bounds, range_node, made, node, membership_of, atom_at, closed_at, prefixed_at, list_open_at, contains_at, upper_at, not_among_at, among_at, compared_at, is_and, deeper, join, next_op, column_first, una_at, chain_at, operand_at, in_at, between_at, inn_at, is_of, is_tail, is_more, is_at, not_at, inside, list_at};
+ghost use Rattle.sql_expressions.specs.Inner.Pieces.{found, Found_op, Found_list, found_list, found_bounds, range_node, made, node, membership_of, atom_at, closed_at, prefixed_at, list_open_at, contains_at, upper_at, not_among_at, among_at, compared_at, is_and, deeper, join, next_op, column_first, una_at, chain_at, operand_at, in_at, between_at, inn_at, truth_test, after_is, maybe_is, is_at, not_at, inside, list_at};
 
 use crate::cursor::{Parser, Tokens, after_comma};
 use crate::level::{Chain, Membership, Opened, Prefix};
@@ -350,14 +350,14 @@ impl Parser {
     }
 
     // What an `IS` asks for, whose node has this depth.
-    fn is_test<'t, 'a>(
+    fn truth_test<'t, 'a>(
         self,
         negated: bool,
         operand: Box<Expr<'a>>,
         depth: usize,
         tokens: Tokens<'t, 'a>,
     ) -> Read<'t, 'a>
-        ensures { Gives (λ x. found x.0 x.1.now) result (is_of self.text_len negated (tree_of operand.entry.value) depth (tok_views tokens.now)) }
+        ensures { Gives (λ x. found x.0 x.1.now) result (truth_test self.text_len negated (tree_of operand.entry.value) depth (tok_views tokens.now)) }
     {
         let [token, rest @ ..] = tokens else {
             return Err(self.misplaced(tokens));
@@ -369,23 +369,23 @@ impl Parser {
     }
 
     // What an `IS` or `IS NOT` asks for, whose node has this depth.
-    fn is_tail<'t, 'a>(
+    fn after_is<'t, 'a>(
         self,
         operand: Box<Expr<'a>>,
         depth: usize,
         tokens: Tokens<'t, 'a>,
     ) -> Read<'t, 'a>
-        ensures { Gives (λ x. found x.0 x.1.now) result (is_tail self.text_len (tree_of operand.entry.value) depth (tok_views tokens.now)) }
+        ensures { Gives (λ x. found x.0 x.1.now) result (after_is self.text_len (tree_of operand.entry.value) depth (tok_views tokens.now)) }
     {
         match tokens {
-            [token, rest @ ..] if is_not(token.tok) => self.is_test(true, operand, depth, rest),
-            _ => self.is_test(false, operand, depth, tokens),
+            [token, rest @ ..] if is_not(token.tok) => self.truth_test(true, operand, depth, rest),
+            _ => self.truth_test(false, operand, depth, tokens),
         }
     }
 
     // `IS` and what it asks for, if it stands next.
-    fn is_more<'t, 'a>(self, left: Parsed<'a>, tokens: Tokens<'t, 'a>) -> Read<'t, 'a>
-        ensures { Gives (λ x. found x.0 x.1.now) result (is_more self.text_len (found left.entry tokens.now) (tok_views tokens.now)) }
+    fn maybe_is<'t, 'a>(self, left: Parsed<'a>, tokens: Tokens<'t, 'a>) -> Read<'t, 'a>
+        ensures { Gives (λ x. found x.0 x.1.now) result (maybe_is self.text_len (found left.entry tokens.now) (tok_views tokens.now)) }
     {
         match tokens {
             [
@@ -397,7 +397,7 @@ impl Parser {
             ] => {
                 let Parsed { expr, depth } = left;
                 let depth = deeper(span.start, depth)?;
-                self.is_tail(expr, depth, rest)
+                self.after_is(expr, depth, rest)
             }
             _ => Ok((left, tokens)),
         }
@@ -415,7 +415,7 @@ impl Parser {
         ensures { Gives (λ x. found x.0 x.1.now) result (compared_at self.text_len (record { op = operator; place = place; rest = tok_views rest.now }) (found left.entry rest.now) (found right.entry rest.now)) }
     {
         let (both, rest) = self.join(operator, place, left, right, rest)?;
-        self.is_more(both, rest)
+        self.maybe_is(both, rest)
     }
 
     // What stands behind an opening at this place, of which so many may still be made.
@@ -483,7 +483,7 @@ impl Parser {
     {
         let (left, rest) = self.membership(room, tokens)?;
         let Some((operator, place, after)) = self.next_comparison(rest) else {
-            return self.is_more(left, rest);
+            return self.maybe_is(left, rest);
         };
         let Parsed { expr, depth } = left;
         deeper(place, depth)?;

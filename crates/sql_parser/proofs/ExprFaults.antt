@@ -19,7 +19,7 @@ use Rattle.sql_expressions.specs.Results.{◌>>=◌}
 use Rattle.sql_expressions.specs.Readers.{misplaced, place_of, left_out, is_sign, expect, after}
 use Rattle.sql_expressions.specs.Reading.{is_call, truth_of, comparison_op, expr_at}
 use Rattle.sql_expressions.specs.Inner.Pieces.{Found, product_op, sum_op, concat_op, and_op, or_op}
-use Rattle.sql_expressions.specs.Inner.Pieces.{Found_op, Found_list, Reader, leaf, is_and, is_not, is_is, deeper, next_op, join, chain_end, chain_turn, chain_more, chain, list_turn, list_more, list_at, column_at, name_at, is_node, is_of, is_tail, is_from, is_more, parens_at, prim_of, prim_at, sign_at, una_of, una_at, mul_at, add_at, cat_at, in_at, between_at, not_in_of, not_in_at, not_in_from, inn_of, inn_more, inn_at, cmp_more, cmp_at, is_at, negation_at, not_at, and_at, or_at, at_level, inside}
+use Rattle.sql_expressions.specs.Inner.Pieces.{Found_op, Found_list, Reader, leaf, is_and, is_not, is_is, deeper, next_op, join, chain_end, chain_turn, chain_more, chain, list_turn, list_more, list_at, column_at, name_at, is_node, truth_test, after_is, is_from, maybe_is, parens_at, prim_of, prim_at, sign_at, una_of, una_at, mul_at, add_at, cat_at, in_at, between_at, not_in_of, not_in_at, not_in_from, inn_of, inn_more, inn_at, cmp_more, cmp_at, is_at, negation_at, not_at, and_at, or_at, at_level, inside}
 use Rattle.sql_expressions.proofs.Same.{seen, expr_same}
 
 abbrev pub IsExprFault : SqlFault → Type 0
@@ -111,24 +111,24 @@ module _ (last : ℕ) where
   is_node_told None neg e d t ts = misplaced_told (t ∷ ts)
   is_node_told (Some w) neg e d t ts = tt
 
-  is_of_told : (neg : Bool) (e : Tree) (d : ℕ) (ts : Tokens) → Told (is_of last neg e d ts)
-  is_of_told neg e d [] = tt
-  is_of_told neg e d (t ∷ ts) = is_node_told (truth_of t.tok) neg e d t ts
+  truth_test_told : (neg : Bool) (e : Tree) (d : ℕ) (ts : Tokens) → Told (truth_test last neg e d ts)
+  truth_test_told neg e d [] = tt
+  truth_test_told neg e d (t ∷ ts) = is_node_told (truth_of t.tok) neg e d t ts
 
-  is_tail_told : (e : Tree) (d : ℕ) (ts : Tokens) → Told (is_tail last e d ts)
-  is_tail_told e d [] = tt
-  is_tail_told e d (t ∷ ts) = of_test (is_not t.tok)
+  after_is_told : (e : Tree) (d : ℕ) (ts : Tokens) → Told (after_is last e d ts)
+  after_is_told e d [] = tt
+  after_is_told e d (t ∷ ts) = of_test (is_not t.tok)
     where
-      of_test : (b : Bool) → Told (if b then is_of last true e d ts else is_of last false e d (t ∷ ts))
-      of_test true = is_of_told true e d ts
-      of_test false = is_of_told false e d (t ∷ ts)
+      of_test : (b : Bool) → Told (if b then truth_test last true e d ts else truth_test last false e d (t ∷ ts))
+      of_test true = truth_test_told true e d ts
+      of_test false = truth_test_told false e d (t ∷ ts)
 
   is_from_told : (place : ℕ) (a : Found) (ts : Tokens) → Told (is_from last place a ts)
-  is_from_told place a ts = on _ _ (deeper_told place a.depth) (λ d. is_tail_told a.tree d ts)
+  is_from_told place a ts = on _ _ (deeper_told place a.depth) (λ d. after_is_told a.tree d ts)
 
-  is_more_told : (a : Found) (ts : Tokens) → Told (is_more last a ts)
-  is_more_told a [] = tt
-  is_more_told a (t ∷ ts) = of_test (is_is t.tok)
+  maybe_is_told : (a : Found) (ts : Tokens) → Told (maybe_is last a ts)
+  maybe_is_told a [] = tt
+  maybe_is_told a (t ∷ ts) = of_test (is_is t.tok)
     where
       of_test : (b : Bool) → Told (if b then is_from last t.span.start a ts else Ok a)
       of_test true = is_from_told t.span.start a ts
@@ -221,7 +221,7 @@ module _ (last : ℕ) where
 
     is_told : (ts : Tokens) → Told (is_at last within ts)
     unfolding is_at
-    is_told ts = on _ _ (cmp_told ts) (λ a. is_more_told a a.rest)
+    is_told ts = on _ _ (cmp_told ts) (λ a. maybe_is_told a a.rest)
 
     negation_told : (place : ℕ) (ts : Tokens) → Told (negation_at last within place ts)
     unfolding negation_at

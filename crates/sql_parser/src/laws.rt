@@ -2,7 +2,7 @@
 
 ghost use Rattle.sql_parser.specs.Laws.{BlockFaultsAreFirst, BlocksAreRead, DdlIsRefused, FaultsAreFirst, TooManyIsRefused};
 
-/// The tokens are read as these statements exactly where they spell them, there are 256 at most, and each is one that a block keeps.
+/// The tokens are read as these statements exactly where they spell them, there are `MAX_STMTS` at most, and each is one that a block keeps.
 pub fn blocks_are_read()
     ensures { BlocksAreRead }
 {}
@@ -23,7 +23,7 @@ pub fn ddl_is_refused()
     ensures { DdlIsRefused }
 {}
 
-/// TooMany is told exactly at the first token of a statement behind 256 that a block keeps.
+/// TooMany is told exactly at the first token of a statement behind `MAX_STMTS` that a block keeps.
 pub fn too_many_is_refused()
     ensures { TooManyIsRefused }
 {}

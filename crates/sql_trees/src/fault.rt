@@ -20,9 +20,9 @@ pub enum SqlFault {
     Syntax(usize),
     /// A part of SQL that is left out begins there.
     LeftOut(usize),
-    /// The token there makes an expression deeper than 64, or is the 65th that is open.
+    /// The token there makes an expression deeper than `MAX_DEPTH`, or is one open parenthesis more than that.
     TooDeep(usize),
-    /// Statement 257 begins there.
+    /// A statement more than `MAX_STMTS` begins there.
     TooMany(usize),
     /// A CREATE or DROP in a session's block.
     DdlInSession(usize),

@@ -287,29 +287,29 @@ module _ (last : ℕ) where
   is_node None negated e depth t ts = Err (misplaced last (t ∷ ts))
   is_node (Some w) negated e depth t ts = Ok (record { tree = Is e negated w; depth = depth; rest = ts })
 
-  abbrev pub is_of : Bool → Tree → ℕ → Tokens → Result Found SqlFault
-  is_of negated e depth [] = Err (misplaced last [])
-  is_of negated e depth (t ∷ ts) = is_node (truth_of t.tok) negated e depth t ts
+  abbrev pub truth_test : Bool → Tree → ℕ → Tokens → Result Found SqlFault
+  truth_test negated e depth [] = Err (misplaced last [])
+  truth_test negated e depth (t ∷ ts) = is_node (truth_of t.tok) negated e depth t ts
 
-  abbrev pub is_tail : Tree → ℕ → Tokens → Result Found SqlFault
-  is_tail e depth [] = is_of false e depth []
-  is_tail e depth (t ∷ ts) = if is_not t.tok then is_of true e depth ts else is_of false e depth (t ∷ ts)
+  abbrev pub after_is : Tree → ℕ → Tokens → Result Found SqlFault
+  after_is e depth [] = truth_test false e depth []
+  after_is e depth (t ∷ ts) = if is_not t.tok then truth_test true e depth ts else truth_test false e depth (t ∷ ts)
 
   -- behind an IS at this place, which makes the node, whatever stands behind it
   abbrev pub is_from : ℕ → Found → Tokens → Result Found SqlFault
   is_from place a ts = do
     d ← deeper place a.depth
-    is_tail a.tree d ts
+    after_is a.tree d ts
 
-  abbrev pub is_more : Found → Tokens → Result Found SqlFault
-  is_more a [] = Ok a
-  is_more a (t ∷ ts) = if is_is t.tok then is_from t.span.start a ts else Ok a
+  abbrev pub maybe_is : Found → Tokens → Result Found SqlFault
+  maybe_is a [] = Ok a
+  maybe_is a (t ∷ ts) = if is_is t.tok then is_from t.span.start a ts else Ok a
 
   -- a comparison's node, and IS behind it
   abbrev pub compared_at : Found_op → Found → Found → Result Found SqlFault
   compared_at o a b = do
     c ← join o a b
-    is_more c c.rest
+    maybe_is c c.rest
 
   module _ (inside : Opened → ℕ → Reader) where
     unfoldable pub parens_at : ℕ → Reader
@@ -422,7 +422,7 @@ module _ (last : ℕ) where
     unfoldable pub is_at : Reader
     is_at ts = do
       a ← cmp_at ts
-      is_more a a.rest
+      maybe_is a a.rest
 
     unfoldable pub negation_at : ℕ → Reader
     negation_at place ts = do

@@ -67,7 +67,7 @@ is-returns-in_err-left t c =
     rw (p.1, p.2) (passed_on _ _ _ c.in_err-left.ensures (is_stops _ _ _))
 
 pub is-returns-in_default : goal.is-returns-in_default
-is-returns-in_default t c = rw (is_alone _ _ _ _ c.in_ok-left.ensures (sym c.in_default.ensures)) c.is_more.ensures
+is-returns-in_default t c = rw (is_alone _ _ _ _ c.in_ok-left.ensures (sym c.in_default.ensures)) c.maybe_is.ensures
 
 pub is-returns-in_err-deeper : goal.is-returns-in_err-deeper
 is-returns-in_err-deeper t c =
