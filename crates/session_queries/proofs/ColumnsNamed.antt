@@ -146,9 +146,6 @@ pub select_answer : (cols : Cols) (s : SelectTree) (o : Option (List ℕ)) → o
 select_answer cols s o h = h ∙ sym (of_select cols s)
 
 -- what is found of the other parts, or else of RETURNING
-pub update_answer : (cols : Cols) (u : UpdateTree) (o : Option (List ℕ)) → o ≡ option_or (undefined_in_changes cols u) (undefined_in_returned cols u.returning) → o ≡ undefined_among cols (update_exprs u)
-update_answer cols u o h = h ∙ sym (of_update cols u)
-
 pub delete_answer : (cols : Cols) (d : DeleteTree) (o : Option (List ℕ)) → o ≡ option_or (undefined_in_condition cols d.filter) (undefined_in_returned cols d.returning)
     → o ≡ undefined_among cols (delete_exprs d)
 delete_answer cols d o h = h ∙ sym (of_delete cols d)

@@ -3,7 +3,7 @@
 ghost use Rattle.std.specs.Prelude.{◌≡◌, ◌<◌, All, IfOk, Ok, length, map, option_map, slice_index_or};
 ghost use Rattle.iso_lexer.specs.Names.{name_view, decoded};
 ghost use Rattle.sql_trees.specs.Statements.{OrderTree, item_of, name_of, order_of};
-ghost use Rattle.sql_trees.specs.Trees.{tree_of};
+ghost use Rattle.sql_trees.specs.Trees.{tree_of, Number};
 ghost use Rattle.sql_values.specs.declared.value.Value.TheVariants.{Null as SqlNull};
 ghost use Rattle.sql_values.specs.Bound.{bound_tree};
 ghost use Rattle.sql_values.specs.Values.{Answers, each};
@@ -60,29 +60,25 @@ fn shown_at<'a>(
     Ok(Value::Null)
 }
 
-/// The value of a key of ORDER BY at the row: a number literal means that column of the result, counted from 1, and a bare name the item with that alias, if there is one.
-fn key_value<'a>(
+/// The value of a key of ORDER BY that is a number literal: the row's value in that column of the result, counted from 1.
+fn position_value<'a>(
     alloc: Global,
-    key: &Expr<'a>,
+    negative: bool,
+    digits: u64,
     items: &[Item<'a>],
     columns: &Columns<'_>,
     row: &Row,
 ) -> Result<Value, ValueFault<'a>>
     requires { length row.now ≡ length columns.now }
-    ensures { Answers result (key_answer columns.now (map item_of items.now) row.now (tree_of key.now)) }
+    ensures { Answers result (key_answer columns.now (map item_of items.now) row.now (Number negative digits)) }
 {
-    match key {
-        Expr::Number { negative: true, .. } | Expr::Number { digits: 0, .. } => Ok(Value::Null),
-        Expr::Number { digits, .. } => shown_at(alloc, *digits - 1, items, columns, row),
-        Expr::Column(name) => match aliased(items, name) {
-            Some(expr) => eval(alloc, expr, columns, row),
-            None => eval(alloc, key, columns, row),
-        },
-        _ => eval(alloc, key, columns, row),
+    if negative || digits == 0 {
+        return Ok(Value::Null);
     }
+    shown_at(alloc, digits - 1, items, columns, row)
 }
 
-/// The expression that a key means, bound to the columns; a number means none.
+/// The expression that a key means, bound to the columns: a bare name means the item with that alias, if there is one, and a number literal no expression.
 fn bound_key<'e, 'a>(
     alloc: Global,
     key: &'e Expr<'a>,
@@ -117,7 +113,7 @@ fn bound_keys<'e, 'a>(
     Ok(bound)
 }
 
-/// The value of a key at the row, by the expression that it means, if one is bound for it.
+/// The value of a key at the row, by the expression that is bound for it; a number literal has none.
 #[tactic(auto, using(crate::proofs::Bindings::key_meant))]
 fn key_at<'a>(
     alloc: Global,
@@ -133,7 +129,12 @@ fn key_at<'a>(
 {
     match bound {
         Some(bound) => bound.value(alloc, row),
-        None => key_value(alloc, key, items, columns, row),
+        None => match key {
+            Expr::Number { negative, digits } => {
+                position_value(alloc, *negative, *digits, items, columns, row)
+            }
+            _ => unreachable!(),
+        },
     }
 }
 

@@ -42,7 +42,7 @@ as_many c catalog k place w values fit there its is =
     f.2 ∙ sym (columns_are catalog k f.0 (ap (slice_get catalog.tables) (sym is) ∙ f.1))
 
 -- the values of a version are those of its write
-its_values : (c : Content) (place : ℕ) (w : Write) → slice_get c.log place ≡ Some w → values_at c place ≡ w.values
+pub its_values : (c : Content) (place : ℕ) (w : Write) → slice_get c.log place ≡ Some w → values_at c place ≡ w.values
 its_values c place w there = ap (option_and_then (λ (v : Write). v.values)) there
 
 -- a row that a view shows of a table is one of the table

@@ -18,7 +18,8 @@ use Rattle.row_versions.specs.declared.names.RowId.{RowId}
 use Rattle.row_versions.specs.declared.names.TableId.{TableId}
 use Rattle.row_versions.specs.declared.write.Write.{Write}
 use Rattle.row_versions.specs.declared.write.Seen.{Seen}
-use Rattle.row_versions.specs.Log.{Content, values_at, after_write}
+use Rattle.row_versions.specs.declared.write.Fate.{Fate}
+use Rattle.row_versions.specs.Log.{Content, values_at, after_write, fate_of, new_row}
 use Rattle.row_versions.specs.Newest.{newest_of}
 use Rattle.row_versions.specs.Members.{is_none_of}
 use Rattle.row_versions.specs.Laws.{IsNewest}
@@ -27,9 +28,10 @@ use Rattle.row_versions.proofs.Gets.{get-append_left, get-append_last}
 use Rattle.row_locks.specs.declared.held.Held.{Held}
 use Rattle.row_locks.specs.Waiting.{Waiting}
 use Rattle.row_locks.specs.Cycles.{closes}
-use Rattle.query_results.specs.Queries.{AssignedColumn, null_in, row_values}
+use Rattle.sql_trees.specs.Trees.{Tree}
+use Rattle.query_results.specs.Queries.{AssignedColumn, new_values, null_in, row_values}
 use Rattle.query_results.specs.Updates.{updated}
-use Rattle.query_results.proofs.Placing.{length-updated}
+use Rattle.query_results.proofs.Placing.{length-new_values, length-updated}
 use Rattle.update_recheck.specs.Asked.{Asked}
 use Rattle.update_recheck.specs.Outcome.{Version, Outcome, outcome, row_blockers, held_by, stop, version_at, newest_version, target_outcome}
 use Rattle.update_recheck.specs.Outcome.Version.{Same, Gone, Newer}
@@ -37,17 +39,17 @@ use Rattle.update_recheck.specs.Outcome.Outcome.{Takes, Skips, Waits, Deadlocks,
 use Rattle.session_machine.specs.Tables.{Database, Catalog, Table}
 use Rattle.session_machine.specs.Walks.{Walk}
 use Rattle.session_machine.specs.Waits.{waits_in}
-use Rattle.session_machine.specs.Rows.{Work, Meets, PassesOver, columns_in, cols_in, values_of, written}
+use Rattle.session_machine.specs.Rows.{Work, Meets, PassesOver, Putting, columns_in, cols_in, inserted, values_of, written}
 use Rattle.session_machine.specs.Rows as meet
-use Rattle.session_machine.specs.Inner.Statements.{keys_in, meet_keys, put_update, settled, shows, at_outcome, at_target, Visit, goes_on, walked}
-use Rattle.session_machine.specs.Inner.Pieces.{unless_stopped, unless_null, unless_met, update_made, shown_made}
+use Rattle.session_machine.specs.Inner.Statements.{keys_in, meet_keys, put_update, settled, shows, at_outcome, at_target, checked, insert_one, Visit, goes_on, walked}
+use Rattle.session_machine.specs.Inner.Pieces.{unless_stopped, unless_null, unless_met, insert_made, update_made, shown_made}
 use Rattle.session_machine.specs.Sound.{RowsFit, RowsStay}
 use Rattle.session_statements.specs.declared.act.Act.{Act}
 use Rattle.session_statements.specs.declared.act.Act.TheVariants.{Update, Delete, Lock}
 use Rattle.session_statements.specs.declared.act.Visited.{Visited}
 use Rattle.session_statements.specs.declared.act.Visited.TheVariants.{Passes, Shows, Stops}
 use Rattle.session_statements.specs.Inner.Acting.{act_with, asked_at, asks, strength_in, table_in, visit_at, visit_of}
-use Rattle.session_statements.specs.Inner.Keeping.{RowIn, RowsIn, IsOrderly, IsKept, CanTake}
+use Rattle.session_statements.specs.Inner.Keeping.{RowIn, RowsIn, IsOrderly, IsKept, IsAtWork, CanTake}
 use Rattle.session_statements.proofs.Keeping.{columns_are, newest_fits}
 use Rattle.session_statements.proofs.Lists.{drop_at}
 
@@ -142,12 +144,12 @@ can_take_of db held w Serializes h = tt
 can_take_of db held w (Faults fault) h = tt
 
 -- the version that a target takes has a value for each column
-pub can_take : (db e : Database) (w : Work) (act : Act) (strength : Strength) (seen : Seen) (o : Outcome) → IsOrderly db → RowIn db.content w.table seen.row
+pub can_take : (db e : Database) (w : Work) (act : Act) (strength : Strength) (seen : Seen) (o : Outcome) → IsAtWork db w → RowIn db.content w.table seen.row
     → e ≡ settled db w (asked_at db w act strength seen) → o ≡ target_outcome db.content db.held (waits_in db w.around.sessions) (asked_at db w act strength seen) → CanTake e w o
-can_take db e w act strength seen o orderly its same is =
+can_take db e w act strength seen o work its same is =
     subst (λ d. CanTake d w o) (sym same)
     (can_take_of db (settled db w (asked_at db w act strength seen)).held w o
-    (subst (Comes (IsFit db w)) (sym is) (outcome_fits db w act strength seen (waits_in db w.around.sessions) orderly its)))
+    (subst (Comes (IsFit db w)) (sym is) (outcome_fits db w act strength seen (waits_in db w.around.sessions) work.running.orderly its)))
 
 -- a target that was settled as it was wanted is visited
 pub visited : (db e : Database) (w : Work) (act : Act) (strength : Strength) (seen : Seen) (o : Outcome) → strength ≡ strength_in db w act seen.row
@@ -180,11 +182,14 @@ last_or_before c new place w there =
 row_in_written : (c : Content) (new : Write) (row : RowId) (k : ℕ) → RowIn c k row → RowIn (after_write c new) k row
 row_in_written c new row k its = (its.0, get-append_at c.log (new ∷ []) row.0 its.0 its.1, its.2)
 
-table_at : (tables : List Table) (k : ℕ) → k < length tables
-    → ((t : Table) × (k < length tables) × (slice_get tables k ≡ Some t) × (get_or tables k t ≡ t)) ⊎ ((length tables ≤ k) × (slice_get tables k ≡ None))
-    → (t : Table) × (slice_get tables k ≡ Some t)
-table_at tables k within (inl w) = (w.0, w.2)
-table_at tables k within (inr w) = let past : length tables ≤ k = w.0 in absurd (omega arith)
+abbrev Found : List Table → ℕ → Type 0
+Found tables k = (t : Table) × (slice_get tables k ≡ Some t)
+
+table_at : (tables : List Table) (k : ℕ) → k < length tables → Found tables k
+table_at tables k within = by (slice_get_cases tables k).1 where
+  by : ((t : Table) × (k < length tables) × (slice_get tables k ≡ Some t) × (get_or tables k t ≡ t)) ⊎ ((length tables ≤ k) × (slice_get tables k ≡ None)) → Found tables k
+  by (inl w) = (w.0, w.2)
+  by (inr w) = let past : length tables ≤ k = w.0 in absurd (omega arith)
 
 -- a write more fits if what it gives does
 fit_written : (c : Content) (catalog : Catalog) (table : Table) (new : Write) → RowsFit c catalog → slice_get catalog.tables new.table.0 ≡ Some table
@@ -215,28 +220,65 @@ kept_on a b c h k = record { fates = k.fates ∙ h.fates; catalog = k.catalog �
 same_table : (a b : TableId) → a.0 ≡ b.0 → a ≡ b
 same_table a b h = let of : ℕ → TableId = λ n. record { 0 = n } in ap of h
 
--- a row of the table is written
-kept_written : (db : Database) (w : Work) (row : RowId) (values : Option (List Value)) → w.table < length db.catalog.tables → IsOrderly db → RowIn db.content w.table row
+-- more locks
+kept_held : (db : Database) (held : List Held) → IsOrderly db → IsKept db (record db { held = held })
+kept_held db held orderly = record { fates = refl; catalog = refl; orderly = orderly; rows = λ row k h. h }
+
+-- a statement stays at work
+pub still_at_work : (before after : Database) (w : Work) → IsKept before after → IsAtWork before w → IsAtWork after w
+still_at_work before after w kept work = record {
+  running = record {
+    opened = ap (λ (fates : List Fate). fate_of fates w.t.tx) kept.fates ∙ work.running.opened;
+    room = work.running.room;
+    orderly = kept.orderly;
+  };
+  within = subst (λ (x : Catalog). w.table < length x.tables) (sym kept.catalog) work.within;
+}
+
+held_at_work : (db : Database) (held : List Held) (w : Work) → IsAtWork db w → IsAtWork (record db { held = held }) w
+held_at_work db held w work = still_at_work db (record db { held = held }) w (kept_held db held work.running.orderly) work
+
+-- also once a target is settled
+pub settled_at_work : (db e : Database) (w : Work) (act : Act) (strength : Strength) (seen : Seen) → e ≡ settled db w (asked_at db w act strength seen) → IsAtWork db w → IsAtWork e w
+settled_at_work db e w act strength seen same work =
+    subst (λ d. IsAtWork d w) (sym same) (held_at_work db (settled db w (asked_at db w act strength seen)).held w work)
+
+abbrev write_in : Work → RowId → Option (List Value) → Write
+write_in w row values = record { tx = w.t.tx; command = w.t.command; table = record { 0 = w.table }; row = row; values = values }
+
+-- a row is written that then is one of the table
+kept_written : (db : Database) (w : Work) (row : RowId) (values : Option (List Value)) → IsAtWork db w → RowIn (after_write db.content (write_in w row values)) w.table row
     → ((vs : List Value) → values ≡ Some vs → length vs ≡ length (columns_in db w)) → IsKept db (written db w row values)
-kept_written db w row values within orderly its long =
+kept_written db w row values work its long =
+    let new = write_in w row values in
+    let t = table_at db.catalog.tables w.table work.within in
     record {
       fates = refl;
       catalog = refl;
       orderly = (
-        fit_written db.content db.catalog t.0 new orderly.0 t.1 (λ vs h. long vs h ∙ columns_are db.catalog w.table t.0 t.1),
-        stay_written db.content new orderly.1 (its.0, get-append_at db.content.log (new ∷ []) row.0 its.0 its.1, same_table its.0.table new.table its.2),
+        fit_written db.content db.catalog t.0 new work.running.orderly.0 t.1 (λ vs h. long vs h ∙ columns_are db.catalog w.table t.0 t.1),
+        stay_written db.content new work.running.orderly.1 (its.0, its.1, same_table its.0.table new.table its.2),
       );
       rows = λ r k h. row_in_written db.content new r k h;
-    } where
-      new : Write
-      new = record { tx = w.t.tx; command = w.t.command; table = record { 0 = w.table }; row = row; values = values }
+    }
 
-      t : (t : Table) × (slice_get db.catalog.tables w.table ≡ Some t)
-      t = table_at db.catalog.tables w.table within (slice_get_cases db.catalog.tables w.table).1
+-- one that was
+kept_again : (db : Database) (w : Work) (row : RowId) (values : Option (List Value)) → IsAtWork db w → RowIn db.content w.table row
+    → ((vs : List Value) → values ≡ Some vs → length vs ≡ length (columns_in db w)) → IsKept db (written db w row values)
+kept_again db w row values work its = kept_written db w row values work (row_in_written db.content (write_in w row values) row w.table its)
+
+-- and a new one, which its transaction holds
+kept_inserted : (db : Database) (w : Work) (values : List Value) → IsAtWork db w → length values ≡ length (columns_in db w) → IsKept db (inserted db w values)
+kept_inserted db w values work long =
+    let row = new_row db.content in
+    let new = write_in w row (Some values) in
+    let after = written db w row (Some values) in
+    let kept = kept_written db w row (Some values) work (new, get-append_last db.content.log new, refl) (λ vs is. ap length (sym (same_Some values vs is)) ∙ long) in
+    kept_on db after (inserted db w values) kept (kept_held after (inserted db w values).held kept.orderly)
 
 -- what may come of a version that is taken
 abbrev CanAct : Database → Work → Seen → Type 0
-CanAct db w seen = (w.table < length db.catalog.tables) × (IsOrderly db) × IsFit db w seen
+CanAct db w seen = IsAtWork db w × IsFit db w seen
 
 unless_null_keeps : (name : List ℕ) (db : Database) (due : Visit) (o : Option (List ℕ)) → IsOrderly db → IsKept db due.db → IsKept db (unless_null name db due o).db
 unless_null_keeps name db due (Some column) h k = kept_here db h
@@ -257,16 +299,26 @@ shows_keeps : (w : Work) (items : Option (List ItemTree)) (before db : Database)
 shows_keeps w None before db row k = k
 shows_keeps w (Some items) before db row k = shown_keeps before db (row_values (cols_in db w) items row) k
 
+-- nor does a row that is put where it may be
+put_keeps : (w : Work) (put : Putting) (db : Database) (except : Option RowId) (values : List Value) (after : Database) → IsOrderly db → IsKept db after
+    → IsKept db (checked w put db except values after).db
+put_keeps w put db except values after orderly kept =
+    unless_null_keeps put.table db _ (null_in (columns_in db w) values) orderly
+    (met_keeps db (shows w put.returning after values) (meet_keys db w put values except (keys_in db w)) orderly (shows_keeps w put.returning db after values kept))
+
 update_keeps : (w : Work) (u : UpdateTree) (targets : List AssignedColumn) (db : Database) (seen : Seen) (r : Result (List Value) ValueFault)
     → updated (cols_in db w) targets u.sets (values_of db seen) ≡ r → CanAct db w seen → IsKept db (update_made w (put_update u) db seen.row r).db
-update_keeps w u targets db seen (Err fault) e h = kept_here db h.1
+update_keeps w u targets db seen (Err fault) e h = kept_here db h.0.running.orderly
 update_keeps w u targets db seen (Ok values) e h =
-    let after = written db w seen.row (Some values) in
-    unless_null_keeps u.table db _ (null_in (columns_in db w) values) h.1
-    (met_keeps db (shows w u.returning after values) (meet_keys db w (put_update u) values (Some seen.row) (keys_in db w)) h.1
-    (shows_keeps w u.returning db after values
-    (kept_written db w seen.row (Some values) h.0 h.1 h.2.0
-    (λ vs is. ap length (sym (same_Some values vs is)) ∙ length-updated (cols_in db w) targets u.sets (values_of db seen) values e ∙ h.2.1))))
+    put_keeps w (put_update u) db (Some seen.row) values (written db w seen.row (Some values)) h.0.running.orderly
+    (kept_again db w seen.row (Some values) h.0 h.1.0
+    (λ vs is. ap length (sym (same_Some values vs is)) ∙ length-updated (cols_in db w) targets u.sets (values_of db seen) values e ∙ h.1.1))
+
+insert_keeps : (w : Work) (put : Putting) (to : List AssignedColumn) (db : Database) (row : List Tree) (r : Result (List Value) ValueFault)
+    → new_values (length (columns_in db w)) to row ≡ r → IsAtWork db w → IsKept db (insert_made w put db r).db
+insert_keeps w put to db row (Err fault) e work = kept_here db work.running.orderly
+insert_keeps w put to db row (Ok values) e work =
+    put_keeps w put db None values (inserted db w values) work.running.orderly (kept_inserted db w values work (length-new_values (length (columns_in db w)) to row values e))
 
 none_some : {A : Type 0} (x : A) → None ≡ Some x → ⊥
 none_some x h = cc
@@ -275,32 +327,27 @@ act_keeps : (w : Work) (act : Act) (db : Database) (seen : Seen) → CanAct db w
 act_keeps w (Update u targets) db seen h = update_keeps w (update_of u.now) targets.now db seen _ refl h
 act_keeps w (Delete d) db seen h =
     shows_keeps w (delete_of d.now).returning db (written db w seen.row None) (values_of db seen)
-    (kept_written db w seen.row None h.0 h.1 h.2.0 (λ vs is. absurd (none_some vs is)))
-act_keeps w (Lock s l) db seen h = shows_keeps w (Some (select_of s.now).items) db db (values_of db seen) (kept_here db h.1)
+    (kept_again db w seen.row None h.0 h.1.0 (λ vs is. absurd (none_some vs is)))
+act_keeps w (Lock s l) db seen h = shows_keeps w (Some (select_of s.now).items) db db (values_of db seen) (kept_here db h.0.running.orderly)
 
--- more locks
-kept_held : (db : Database) (held : List Held) → IsOrderly db → IsKept db (record db { held = held })
-kept_held db held orderly = record { fates = refl; catalog = refl; orderly = orderly; rows = λ row k h. h }
-
-outcome_keeps : (w : Work) (act : Act) (db : Database) (held : List Held) (a : Asked) (o : Outcome) → w.table < length db.catalog.tables → IsOrderly db → Comes (IsFit db w) o
-    → (let d : Database = record db { held = held } in IsKept d (at_outcome (table_in act) (act_with w act) d a o).db)
-outcome_keeps w act db held a (Takes seen) within orderly h = act_keeps w act (record db { held = held }) seen (within, orderly, h)
-outcome_keeps w act db held a Skips within orderly h = kept_here (record db { held = held }) orderly
-outcome_keeps w act db held a Waits within orderly h = kept_here (record db { held = held }) orderly
-outcome_keeps w act db held a Deadlocks within orderly h = kept_here (record db { held = held }) orderly
-outcome_keeps w act db held a NotFree within orderly h = kept_here (record db { held = held }) orderly
-outcome_keeps w act db held a Serializes within orderly h = kept_here (record db { held = held }) orderly
-outcome_keeps w act db held a (Faults fault) within orderly h = kept_here (record db { held = held }) orderly
+outcome_keeps : (w : Work) (act : Act) (db : Database) (a : Asked) (o : Outcome) → IsAtWork db w → Comes (IsFit db w) o → IsKept db (at_outcome (table_in act) (act_with w act) db a o).db
+outcome_keeps w act db a (Takes seen) work h = act_keeps w act db seen (work, h)
+outcome_keeps w act db a Skips work h = kept_here db work.running.orderly
+outcome_keeps w act db a Waits work h = kept_here db work.running.orderly
+outcome_keeps w act db a Deadlocks work h = kept_here db work.running.orderly
+outcome_keeps w act db a NotFree work h = kept_here db work.running.orderly
+outcome_keeps w act db a Serializes work h = kept_here db work.running.orderly
+outcome_keeps w act db a (Faults fault) work h = kept_here db work.running.orderly
 
 -- a target is visited
-pub visit_keeps : (db : Database) (w : Work) (act : Act) (seen : Seen) → w.table < length db.catalog.tables → IsOrderly db → RowIn db.content w.table seen.row
-    → IsKept db (visit_at w act db seen).db
-visit_keeps db w act seen within orderly its =
+visit_keeps : (db : Database) (w : Work) (act : Act) (seen : Seen) → IsAtWork db w → RowIn db.content w.table seen.row → IsKept db (visit_at w act db seen).db
+visit_keeps db w act seen work its =
     let a = asks db w act seen in
     let held = (settled db w a).held in
-    kept_on db (record db { held = held }) _ (kept_held db held orderly)
-    (outcome_keeps w act db held a (target_outcome db.content db.held (waits_in db w.around.sessions) a) within orderly
-    (outcome_fits db w act (strength_in db w act seen.row) seen (waits_in db w.around.sessions) orderly its))
+    let waits = waits_in db w.around.sessions in
+    kept_on db (record db { held = held }) _ (kept_held db held work.running.orderly)
+    (outcome_keeps w act (record db { held = held }) a (target_outcome db.content db.held waits a) (held_at_work db held w work)
+    (outcome_fits db w act (strength_in db w act seen.row) seen waits work.running.orderly its))
 
 visit_db : (db : Database) (v : Visited) → (visit_of db v).db ≡ db
 visit_db db Passes = refl
@@ -308,10 +355,8 @@ visit_db db (Shows row) = refl
 visit_db db (Stops stop) = refl
 
 -- the same, by what came of it
-pub kept_by : (db e : Database) (w : Work) (act : Act) (seen : Seen) (v : Visited) → w.table < length db.catalog.tables → IsOrderly db → RowIn db.content w.table seen.row
-    → visit_at w act db seen ≡ visit_of e v → IsKept db e
-kept_by db e w act seen v within orderly its same =
-    subst (IsKept db) (ap (λ (x : Visit). x.db) same ∙ visit_db e v) (visit_keeps db w act seen within orderly its)
+kept_by : (db e : Database) (visit : Visit) (v : Visited) → visit ≡ visit_of e v → IsKept db visit.db → IsKept db e
+kept_by db e visit v same = subst (IsKept db) (ap (λ (x : Visit). x.db) same ∙ visit_db e v)
 
 pub get_or_any : {A : Type 0} (xs : List A) (i : ℕ) (a b : A) → i < length xs → get_or xs i a ≡ get_or xs i b
 get_or_any [] i a b l = absurd (omega (arith, l))
@@ -319,14 +364,18 @@ get_or_any (x ∷ xs) zero a b l = refl
 get_or_any (x ∷ xs) (suc i) a b l = get_or_any xs i a b (omega (arith, l))
 
 -- the same from the beginning of a walk on
-pub kept_step : (db d e : Database) (w : Work) (act : Act) (targets : List Seen) (at : ℕ) (other : Seen) (v : Visited) → w.table < length db.catalog.tables → RowsIn db.content w.table targets
+pub kept_step : (db d e : Database) (w : Work) (act : Act) (targets : List Seen) (at : ℕ) (other : Seen) (v : Visited) → IsAtWork db w → RowsIn db.content w.table targets
     → IsKept db d → at < length targets → visit_at w act d (get_or targets at other) ≡ visit_of e v → IsKept db e
-kept_step db d e w act targets at other v within its kept below same =
+kept_step db d e w act targets at other v work its kept below same =
     let seen = get_or targets at other in
     kept_on db d e kept
-    (kept_by d e w act seen v (subst (λ (x : Catalog). w.table < length x.tables) (sym kept.catalog) within) kept.orderly
-    (kept.rows seen.row w.table (its at other below))
-    same)
+    (kept_by d e (visit_at w act d seen) v same (visit_keeps d w act seen (still_at_work db d w kept work) (kept.rows seen.row w.table (its at other below))))
+
+-- and at a row of VALUES
+pub kept_row : (db d e : Database) (w : Work) (put : Putting) (to : List AssignedColumn) (row : List Tree) (v : Visited) → IsAtWork db w
+    → IsKept db d → insert_one w put to d row ≡ visit_of e v → IsKept db e
+kept_row db d e w put to row v work kept same =
+    kept_on db d e kept (kept_by d e (insert_one w put to d row) v same (insert_keeps w put to d row _ refl (still_at_work db d w kept work)))
 
 pub append_none : {A : Type 0} (xs : List A) → xs ++ [] ≡ xs
 append_none [] = refl

@@ -1,12 +1,11 @@
 //! A statement over a table: it begins at the table that its name means, and goes over its targets there.
 
-ghost use Rattle.std.specs.Prelude.{◌≡◌, ◌+◌, ◌<◌, ◌^◌, [], Some, Ok, true, IfOk, OnErr};
+ghost use Rattle.std.specs.Prelude.{◌≡◌, [], Some, Ok, true, IfOk, OnErr};
 ghost use Rattle.sql_trees.specs.Statements.{name_of, stmt_of};
-ghost use Rattle.row_versions.specs.Log.{IsOpen};
 ghost use Rattle.session_machine.specs.Tables.{find_table};
 ghost use Rattle.session_machine.specs.Running.{begin_at};
 ghost use Rattle.session_statements.specs.Inner.Going.{go_from, has_targets, reaches};
-ghost use Rattle.session_statements.specs.Inner.Keeping.{IsAtWork, IsOrderly};
+ghost use Rattle.session_statements.specs.Inner.Keeping.{IsAtWork, IsRunning};
 ghost use Rattle.session_statements.specs.Inner.Left.{left};
 ghost use Rattle.session_statements.specs.Targets.{AreKept, targets_of};
 
@@ -89,9 +88,7 @@ pub(crate) fn begin_at<'a, 't, V: Versions>(
     name: Name<'t>,
     stmt: &'a Stmt<'t>,
 ) -> Result<Effect<'t>, AllocError>
-    requires opened { IsOpen db.old.content by.now.tx }
-    requires room { by.now.command + 1 < 2 ^ 64 }
-    requires orderly { IsOrderly db.old }
+    requires running { IsRunning db.old by.now }
     ensures did { IfOk result (λ did. begin_at db.old by.now around.now (name_of name.entry) (stmt_of stmt.now) ≡ left db.new did) }
     ensures kept { IfOk result (λ did. AreKept db.old (stmt_of stmt.now) did.statement did.targets) }
     ensures memory { OnErr result (reaches db.old (stmt_of stmt.now) (find_table db.old (Some by.now.tx) (name_of name.entry)) ≡ true) }

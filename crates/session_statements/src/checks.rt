@@ -1,13 +1,13 @@
 //! What a row meets that is about to be written: NULL in a column that may not be, and then a key.
 
-ghost use Rattle.std.specs.Prelude.{◌≡◌, ◌<◌, length, option_map, IfOk};
-ghost use Rattle.row_versions.specs.Log.{IsOpen};
+ghost use Rattle.std.specs.Prelude.{◌≡◌, option_map, IfOk};
 ghost use Rattle.query_results.specs.Queries.{null_in};
 ghost use Rattle.session_machine.specs.Rows.{columns_in};
 ghost use Rattle.session_machine.specs.Inner.Statements.{keys_in, meet_keys, Visit};
 ghost use Rattle.session_machine.specs.Inner.Pieces.{unless_met, unless_null};
 ghost use Rattle.session_database.specs.Stops.{meets_of};
 ghost use Rattle.session_statements.specs.Inner.Acting.{putting_of};
+ghost use Rattle.session_statements.specs.Inner.Keeping.{IsAtWork};
 
 use crate::act::Putting;
 use iso_lexer::Ident;
@@ -27,8 +27,7 @@ pub(crate) fn met_before_write<'a, 't, V: Versions>(
     values: &Row,
     except: Option<RowId>,
 ) -> Result<Option<Meets<'t>>, AllocError>
-    requires opened { IsOpen db.now.content work.now.t.tx }
-    requires within { work.now.table < length db.now.catalog.tables }
+    requires work { IsAtWork db.now work.now }
     ensures { (due : Visit) → IfOk result (λ met.
         unless_null (putting_of put.now).table db.now
         (unless_met db.now due (meet_keys db.now work.now (putting_of put.now) values.now except (keys_in db.now work.now)))

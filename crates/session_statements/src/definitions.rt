@@ -1,10 +1,10 @@
 //! CREATE TABLE and DROP TABLE (PostgreSQL manual, the pages of both).
 
-ghost use Rattle.std.specs.Prelude.{◌≡◌, ◌+◌, ◌<◌, ◌^◌, Some, None, true, map, IfOk, OnErr};
+ghost use Rattle.std.specs.Prelude.{◌≡◌, Some, None, true, map, IfOk, OnErr};
 ghost use Rattle.sql_trees.specs.Statements.{create_of, drop_of, name_of, Create};
-ghost use Rattle.row_versions.specs.Log.{IsOpen};
 ghost use Rattle.session_machine.specs.Tables.{find_table};
 ghost use Rattle.session_statements.specs.Inner.Going.{drop_reaches};
+ghost use Rattle.session_statements.specs.Inner.Keeping.{IsRunning};
 ghost use Rattle.session_statements.specs.Inner.Left.{left};
 ghost use Rattle.session_machine.specs.Statements.{drop_tables, Surroundings as SurroundingsFacts};
 ghost use Rattle.session_machine.specs.Running.{run_in};
@@ -25,8 +25,7 @@ pub(crate) fn create<'a, 't, V: Versions>(
     by: &OpenTransaction,
     made: &'a CreateTable<'t>,
 ) -> Result<Effect<'t>, AllocError>
-    requires opened { IsOpen db.old.content by.now.tx }
-    requires room { by.now.command + 1 < 2 ^ 64 }
+    requires running { IsRunning db.old by.now }
     ensures did { (around : SurroundingsFacts) → IfOk result (λ did. run_in db.old by.now around (Create (create_of made.now)) ≡ left db.new did) }
     ensures memory { OnErr result (find_table db.old (Some by.now.tx) (name_of made.now.name) ≡ None) }
 {
@@ -68,8 +67,7 @@ pub(crate) fn drop_tables<'a, 't, V: Versions>(
     by: &OpenTransaction,
     stmt: &'a DropTable<'t>,
 ) -> Result<Effect<'t>, AllocError>
-    requires opened { IsOpen db.old.content by.now.tx }
-    requires room { by.now.command + 1 < 2 ^ 64 }
+    requires running { IsRunning db.old by.now }
     ensures did { IfOk result (λ did. drop_tables db.old by.now (drop_of stmt.now).if_exists (drop_of stmt.now).names ≡ left db.new did) }
     ensures memory { OnErr result (drop_reaches db.old by.now (drop_of stmt.now).if_exists (drop_of stmt.now).names ≡ true) }
 {

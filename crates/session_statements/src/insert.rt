@@ -6,7 +6,7 @@ ghost use Rattle.sql_trees.specs.Statements.{column_of, exprs_of, insert_of, nam
 ghost use Rattle.sql_values.specs.Values.{Answers};
 ghost use Rattle.sql_values.specs.declared.fault.ValueFault.TheVariants.{Memory};
 ghost use Rattle.sql_values.specs.declared.value.Value.{Value as SqlValue};
-ghost use Rattle.row_versions.specs.Log.{Content, IsOpen};
+ghost use Rattle.row_versions.specs.Log.{Content};
 ghost use Rattle.query_results.specs.Queries.{columns_assigned, new_values};
 ghost use Rattle.session_machine.specs.declared.reply.Outcome.{Outcome as OutcomeFacts};
 ghost use Rattle.session_machine.specs.Rows.{columns_in};
@@ -14,7 +14,7 @@ ghost use Rattle.session_machine.specs.Inner.Statements.{insert_one, assigned_to
 ghost use Rattle.session_machine.specs.Inner.Pieces.{insert_made};
 ghost use Rattle.session_statements.specs.Inner.Acting.{halted_walk, putting_of, visit_of};
 ghost use Rattle.session_statements.specs.Inner.Going.{go_from};
-ghost use Rattle.session_statements.specs.Inner.Keeping.{IsAtWork};
+ghost use Rattle.session_statements.specs.Inner.Keeping.{IsAtWork, IsKept};
 ghost use Rattle.session_statements.specs.Inner.Kept.{HasKept};
 ghost use Rattle.session_statements.specs.Inner.Left.{left};
 
@@ -65,12 +65,9 @@ fn insert_made<'a, 't, V: Versions>(
     put: &Putting<'_, 't>,
     values: Row,
 ) -> Result<Visited<'t>, AllocError>
-    requires opened { IsOpen db.old.content work.now.t.tx }
-    requires within { work.now.table < length db.old.catalog.tables }
+    requires work { IsAtWork db.old work.now }
     requires even { length values ≡ length (columns_in db.old work.now) }
-    ensures made { IfOk result (λ v. insert_made work.now (putting_of put.now) db.old (Ok values) ≡ visit_of db.new v) }
-    ensures fates { OnOk result (db.new.content.fates ≡ db.old.content.fates) }
-    ensures catalog { OnOk result (db.new.catalog ≡ db.old.catalog) }
+    ensures { IfOk result (λ v. insert_made work.now (putting_of put.now) db.old (Ok values) ≡ visit_of db.new v) }
 {
     if let Some(met) = met_before_write(db, work, put, &values, None)? {
         return Ok(Visited::at_key(met));
@@ -102,11 +99,8 @@ fn insert_row<'a, 't, V: Versions>(
     to: &AssignedColumns,
     row: &[Expr<'t>],
 ) -> Result<Visited<'t>, AllocError>
-    requires opened { IsOpen db.old.content work.now.t.tx }
-    requires within { work.now.table < length db.old.catalog.tables }
-    ensures visit { IfOk result (λ v. insert_one work.now (put_insert (insert_of stmt.now)) to.now db.old (map tree_of row.now) ≡ visit_of db.new v) }
-    ensures fates { OnOk result (db.new.content.fates ≡ db.old.content.fates) }
-    ensures catalog { OnOk result (db.new.catalog ≡ db.old.catalog) }
+    requires work { IsAtWork db.old work.now }
+    ensures { IfOk result (λ v. insert_one work.now (put_insert (insert_of stmt.now)) to.now db.old (map tree_of row.now) ≡ visit_of db.new v) }
 {
     match inserted(db, work, to, row) {
         Ok(values) => insert_made(db, work, &Putting::of_insert(stmt), values),
@@ -126,13 +120,11 @@ fn insert_rows<'a, 't, V: Versions>(
     place: usize,
     rows: &mut Vec<Row>,
 ) -> Result<Option<Halt<'t>>, AllocError>
-    requires opened { IsOpen db.old.content work.now.t.tx }
-    requires within { work.now.table < length db.old.catalog.tables }
+    requires work { IsAtWork db.old work.now }
     ensures walk { (before : Content) (outcome : List (List SqlValue) → OutcomeFacts) → IfOk result (λ halt.
         after_walk before work.now outcome (walked (insert_one work.now (put_insert (insert_of stmt.now)) to.now) db.old place rows.old.items (drop place (map exprs_of stmt.now.rows.items)))
         ≡ halted_walk before work.now outcome db.new rows.new.items halt) }
-    ensures fates { OnOk result (db.new.content.fates ≡ db.old.content.fates) }
-    ensures catalog { OnOk result (db.new.catalog ≡ db.old.catalog) }
+    ensures kept { OnOk result (IsKept db.old db.new) }
 {
     for at in place..stmt.rows.len() {
         match insert_row(db, work, stmt, to, &stmt.rows[at])? {

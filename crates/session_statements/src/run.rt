@@ -10,7 +10,8 @@ ghost use Rattle.session_machine.specs.Statements.{turns};
 ghost use Rattle.session_machine.specs.Running.{run_in, run_stmt};
 ghost use Rattle.session_machine.specs.Inner.Statements.{begun};
 ghost use Rattle.session_machine.specs.Sound.{RowsFit, RowsStay};
-ghost use Rattle.session_statements.specs.Inner.Keeping.{IsOrderly};
+ghost use Rattle.session_machine.specs.Targets.{going_on};
+ghost use Rattle.session_statements.specs.Inner.Keeping.{IsAtWork, IsOrderly, IsRunning};
 ghost use Rattle.session_statements.specs.Inner.Left.{left};
 ghost use Rattle.session_statements.specs.Growing.{begins, is_query, may_grow};
 ghost use Rattle.session_statements.specs.Targets.{AreKept, AreTargets};
@@ -41,9 +42,7 @@ fn run_open<'a, 't, V: Versions>(
     around: &Surroundings<'_>,
     stmt: &'a Stmt<'t>,
 ) -> Result<Effect<'t>, AllocError>
-    requires opened { IsOpen db.old.content by.now.tx }
-    requires room { by.now.command + 1 < 2 ^ 64 }
-    requires orderly { IsOrderly db.old }
+    requires running { IsRunning db.old by.now }
     ensures did { IfOk result (λ did.
         run_in db.old by.now around.now (stmt_of stmt.now)
         ≡ left db.new did) }
@@ -136,10 +135,7 @@ fn run_on<'a, 't, V: Versions>(
     targets: Vec<Seen>,
     stmt: &'a Stmt<'t>,
 ) -> Result<Effect<'t>, AllocError>
-    requires opened { IsOpen db.old.content by.now.tx }
-    requires room { by.now.command + 1 < 2 ^ 64 }
-    requires orderly { IsOrderly db.old }
-    requires within { progress.table.0 < length db.old.catalog.tables }
+    requires work { IsAtWork db.old (going_on by.now around.now progress) }
     requires kept { AreTargets db.old (stmt_of stmt.now) progress targets.items }
     ensures did { IfOk result (λ did. run_stmt db.old (Transaction.Open by.now) (Some progress) around.now (stmt_of stmt.now) ≡ left db.new did) }
     ensures kept { IfOk result (λ did. AreKept db.old (stmt_of stmt.now) did.statement did.targets) }

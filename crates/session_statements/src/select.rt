@@ -1,20 +1,18 @@
 //! SELECT (PostgreSQL manual, its page).
 
-ghost use Rattle.std.specs.Prelude.{◌≡◌, ◌+◌, ◌<◌, ◌^◌, [], ◌∷◌, Result, Err, None, length, IfOk, OnErr};
+ghost use Rattle.std.specs.Prelude.{◌≡◌, [], ◌∷◌, Result, Err, None, IfOk, OnErr};
 ghost use Rattle.std.specs.Option.{option_map_or};
 ghost use Rattle.sql_trees.specs.Statements.{select_of, Selects};
 ghost use Rattle.sql_values.specs.declared.fault.ValueFault.{ValueFault as ValueFaultFacts};
 ghost use Rattle.sql_values.specs.Values.{Answers};
 ghost use Rattle.query_results.specs.Results.{Results};
 ghost use Rattle.query_results.specs.Queries.{result_of};
-ghost use Rattle.row_versions.specs.Log.{IsOpen};
 ghost use Rattle.session_machine.specs.Views.{rows_shown};
 ghost use Rattle.session_machine.specs.Rows.{columns_in};
 ghost use Rattle.session_machine.specs.Statements.{fails};
 ghost use Rattle.session_machine.specs.Running.{at_once, fault_in};
 ghost use Rattle.session_machine.specs.Inner.Statements.{answered};
-ghost use Rattle.session_machine.specs.Sound.{RowsFit};
-ghost use Rattle.session_statements.specs.Inner.Keeping.{IsAtWork};
+ghost use Rattle.session_statements.specs.Inner.Keeping.{IsAtWork, IsRunning};
 ghost use Rattle.session_statements.specs.Inner.Left.{left};
 
 use crate::effect::Effect;
@@ -43,8 +41,7 @@ fn result_at<'a, 't, V: Versions>(
     work: &Work<'_>,
     stmt: &'a Select<'t>,
 ) -> Result<ResultSet<'t>, ValueFault<'t>>
-    requires within { work.now.table < length db.now.catalog.tables }
-    requires fit { RowsFit db.now.content db.now.catalog }
+    requires work { IsAtWork db.now work.now }
     ensures { Answers result (result_of (select_of stmt.now) (columns_in db.now work.now) (rows_shown db.now.content work.now.view work.now.table)) }
 {
     let seen = db.seen_by(work)?;
@@ -58,8 +55,7 @@ fn answer<'a, 't, V: Versions>(
     by: &OpenTransaction,
     made: Result<ResultSet<'t>, ValueFault<'t>>,
 ) -> Result<Effect<'t>, AllocError>
-    requires opened { IsOpen db.old.content by.now.tx }
-    requires room { by.now.command + 1 < 2 ^ 64 }
+    requires running { IsRunning db.old by.now }
     ensures did { (due : Result Results ValueFaultFacts) → Answers made.entry due → IfOk result (λ did. answered db.old by.now due ≡ left db.new did) }
     ensures memory { OnErr result (made.entry ≡ Err ValueFault.Memory) }
 {
@@ -92,8 +88,7 @@ pub(crate) fn select_constant<'a, 't, V: Versions>(
     by: &OpenTransaction,
     stmt: &'a Select<'t>,
 ) -> Result<Effect<'t>, AllocError>
-    requires opened { IsOpen db.old.content by.now.tx }
-    requires room { by.now.command + 1 < 2 ^ 64 }
+    requires running { IsRunning db.old by.now }
     ensures did { IfOk result (λ did.
         option_map_or (fails db.old by.now) (fault_in [] (Selects (select_of stmt.now))) (at_once db.old by.now [] ([] ∷ []) (Selects (select_of stmt.now))) ≡ left db.new did) }
     ensures memory { OnErr result (fault_in [] (Selects (select_of stmt.now)) ≡ None) }

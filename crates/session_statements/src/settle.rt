@@ -3,7 +3,6 @@
 ghost use Rattle.std.specs.Prelude.{◌≡◌, ◌<◌, length, map, IfOk, OnOk};
 ghost use Rattle.sql_trees.specs.Statements.{column_of, delete_of};
 ghost use Rattle.query_results.specs.Queries.{cols_of};
-ghost use Rattle.row_versions.specs.Log.{IsOpen};
 ghost use Rattle.update_recheck.specs.Asked.{Fits};
 ghost use Rattle.update_recheck.specs.Outcome.{target_outcome};
 ghost use Rattle.update_recheck.specs.Settling.{outcome_of};
@@ -11,7 +10,7 @@ ghost use Rattle.session_machine.specs.Waits.{waits_in};
 ghost use Rattle.session_machine.specs.Rows.{columns_in, values_of};
 ghost use Rattle.session_machine.specs.Inner.Statements.{at_outcome, delete_with, settled};
 ghost use Rattle.session_statements.specs.Inner.Acting.{act_with, asked_at, strength_in, table_in, visit_at, visit_of};
-ghost use Rattle.session_statements.specs.Inner.Keeping.{CanTake, IsOrderly, RowIn};
+ghost use Rattle.session_statements.specs.Inner.Keeping.{CanTake, IsAtWork, RowIn};
 
 use crate::act::{Act, Visited};
 use crate::lock::lock_with;
@@ -42,8 +41,7 @@ fn strength_at<'a, 't, V: Versions>(
     act: &Act<'_, 'a, 't>,
     seen: &Seen,
 ) -> Result<Strength, AllocError>
-    requires within { work.now.table < length db.now.catalog.tables }
-    requires orderly { IsOrderly db.now }
+    requires work { IsAtWork db.now work.now }
     requires its { RowIn db.now.content work.now.table seen.now.row }
     ensures { IfOk result (λ strength. strength ≡ strength_in db.now work.now act.now seen.now.row) }
 {
@@ -102,8 +100,7 @@ fn at_outcome<'a, 't, V: Versions>(
     strength: Strength,
     settled: Settled<'t>,
 ) -> Result<Visited<'t>, AllocError>
-    requires opened { IsOpen db.old.content work.now.t.tx }
-    requires within { work.now.table < length db.old.catalog.tables }
+    requires work { IsAtWork db.old work.now }
     requires takes { CanTake db.old work.now (outcome_of settled) }
     ensures { IfOk result (λ v. at_outcome (table_in act.now) (act_with work.now act.now) db.old (asked_at db.old work.now act.now strength seen.now) (outcome_of settled.entry) ≡ visit_of db.new v) }
 {
@@ -128,9 +125,7 @@ pub(crate) fn visit<'a, 't, V: Versions>(
     act: &Act<'_, 'a, 't>,
     seen: &Seen,
 ) -> Result<Visited<'t>, AllocError>
-    requires opened { IsOpen db.old.content work.now.t.tx }
-    requires within { work.now.table < length db.old.catalog.tables }
-    requires orderly { IsOrderly db.old }
+    requires work { IsAtWork db.old work.now }
     requires its { RowIn db.old.content work.now.table seen.now.row }
     ensures { IfOk result (λ v. visit_at work.now act.now db.old seen.now ≡ visit_of db.new v) }
 {
@@ -146,8 +141,7 @@ fn delete_with<'a, 't, V: Versions>(
     stmt: &Delete<'t>,
     version: &Seen,
 ) -> Result<Visited<'t>, AllocError>
-    requires opened { IsOpen db.old.content work.now.t.tx }
-    requires within { work.now.table < length db.old.catalog.tables }
+    requires work { IsAtWork db.old work.now }
     requires even { length (values_of db.old version.now) ≡ length (columns_in db.old work.now) }
     ensures { IfOk result (λ v. delete_with work.now (delete_of stmt.now) db.old version.now ≡ visit_of db.new v) }
 {
@@ -163,8 +157,7 @@ fn act_with<'a, 't, V: Versions>(
     act: &Act<'_, 'a, 't>,
     version: &Seen,
 ) -> Result<Visited<'t>, AllocError>
-    requires opened { IsOpen db.old.content work.now.t.tx }
-    requires within { work.now.table < length db.old.catalog.tables }
+    requires work { IsAtWork db.old work.now }
     requires even { length (values_of db.old version.now) ≡ length (columns_in db.old work.now) }
     ensures { IfOk result (λ v. act_with work.now act.now db.old version.now ≡ visit_of db.new v) }
 {

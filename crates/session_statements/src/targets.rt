@@ -1,13 +1,13 @@
 //! The targets of a statement: the versions that its view shows and that it is about.
 
-ghost use Rattle.std.specs.Prelude.{◌≡◌, ℕ, ◌<◌, [], ◌∷◌, List, Result, length, filter_map, slice_get, option_map, IfOk};
+ghost use Rattle.std.specs.Prelude.{◌≡◌, ℕ, [], ◌∷◌, List, Result, filter_map, slice_get, option_map, IfOk};
 ghost use Rattle.sql_trees.specs.Trees.{tree_of};
 ghost use Rattle.sql_trees.specs.Statements.{select_of, stmt_of};
 ghost use Rattle.sql_values.specs.declared.fault.ValueFault.{ValueFault as ValueFaultFacts};
 ghost use Rattle.session_machine.specs.Inner.Statements.{assigned_to};
 ghost use Rattle.session_machine.specs.Targets.{at_places, passing_targets, taken_targets};
 ghost use Rattle.session_queries.specs.Code.Fronts.{AnswersList};
-ghost use Rattle.session_statements.specs.Inner.Keeping.{IsOrderly};
+ghost use Rattle.session_statements.specs.Inner.Keeping.{IsAtWork};
 ghost use Rattle.session_statements.specs.Targets.{targets_of};
 
 use iso_lexer::Ident;
@@ -70,8 +70,7 @@ fn passing_targets<'a, 't, V: Versions>(
     work: &Work<'_>,
     filter: &Option<Expr<'t>>,
 ) -> Result<Vec<Seen>, ValueFault<'t>>
-    requires within { work.now.table < length db.now.catalog.tables }
-    requires orderly { IsOrderly db.now }
+    requires work { IsAtWork db.now work.now }
     ensures { AnswersList result (passing_targets db.now work.now (option_map tree_of filter.now)) }
 {
     let seen = db.seen_by(work)?;
@@ -86,8 +85,7 @@ fn taken_targets<'a, 't, V: Versions>(
     work: &Work<'_>,
     stmt: &Select<'t>,
 ) -> Result<Vec<Seen>, ValueFault<'t>>
-    requires within { work.now.table < length db.now.catalog.tables }
-    requires orderly { IsOrderly db.now }
+    requires work { IsAtWork db.now work.now }
     ensures { AnswersList result (taken_targets db.now work.now (select_of stmt.now)) }
 {
     let seen = db.seen_by(work)?;
@@ -102,8 +100,7 @@ pub(crate) fn targets_of<'a, 't, V: Versions>(
     work: &Work<'_>,
     stmt: &Stmt<'t>,
 ) -> Result<Vec<Seen>, ValueFault<'t>>
-    requires within { work.now.table < length db.now.catalog.tables }
-    requires orderly { IsOrderly db.now }
+    requires work { IsAtWork db.now work.now }
     ensures { AnswersList result (targets_of db.now work.now (stmt_of stmt.now)) }
 {
     match stmt {

@@ -2,7 +2,6 @@
 
 ghost use Rattle.std.specs.Prelude.{◌≡◌, ◌<◌, Ok, length, map, IfOk};
 ghost use Rattle.sql_trees.specs.Statements.{column_of, set_of, update_of, Updates};
-ghost use Rattle.row_versions.specs.Log.{IsOpen};
 ghost use Rattle.query_results.specs.Updates.{columns_set, updated};
 ghost use Rattle.sql_values.specs.Values.{Answers};
 ghost use Rattle.session_machine.specs.Rows.{cols_in, columns_in, update_strength, values_of};
@@ -11,7 +10,7 @@ ghost use Rattle.session_machine.specs.Inner.Pieces.{update_made};
 ghost use Rattle.session_machine.specs.Targets.{passing_targets};
 ghost use Rattle.session_statements.specs.Inner.Acting.{putting_of, visit_of};
 ghost use Rattle.session_statements.specs.Inner.Going.{go_from};
-ghost use Rattle.session_statements.specs.Inner.Keeping.{IsAtWork, IsOrderly, RowIn};
+ghost use Rattle.session_statements.specs.Inner.Keeping.{IsAtWork, RowIn};
 ghost use Rattle.session_statements.specs.Inner.Kept.{HasKept};
 ghost use Rattle.session_statements.specs.Inner.Left.{left};
 
@@ -50,8 +49,7 @@ pub(crate) fn update_strength<'a, 't, V: Versions>(
     to: &AssignedColumns,
     seen: &Seen,
 ) -> Result<Strength, AllocError>
-    requires within { work.now.table < length db.now.catalog.tables }
-    requires orderly { IsOrderly db.now }
+    requires work { IsAtWork db.now work.now }
     requires its { RowIn db.now.content work.now.table seen.now.row }
     ensures { IfOk result (λ strength. strength ≡ update_strength db.now work.now to.now (update_of stmt.now) seen.now.row) }
 {
@@ -94,8 +92,7 @@ fn update_made<'a, 't, V: Versions>(
     version: &Seen,
     values: Row,
 ) -> Result<Visited<'t>, AllocError>
-    requires opened { IsOpen db.old.content work.now.t.tx }
-    requires within { work.now.table < length db.old.catalog.tables }
+    requires work { IsAtWork db.old work.now }
     requires even { length values ≡ length (columns_in db.old work.now) }
     ensures { IfOk result (λ v. update_made work.now (putting_of put.now) db.old version.now.row (Ok values) ≡ visit_of db.new v) }
 {
@@ -115,8 +112,7 @@ pub(crate) fn update_with<'a, 't, V: Versions>(
     to: &AssignedColumns,
     version: &Seen,
 ) -> Result<Visited<'t>, AllocError>
-    requires opened { IsOpen db.old.content work.now.t.tx }
-    requires within { work.now.table < length db.old.catalog.tables }
+    requires work { IsAtWork db.old work.now }
     requires even { length (values_of db.old version.now) ≡ length (columns_in db.old work.now) }
     ensures { IfOk result (λ v. update_with work.now (update_of stmt.now) to.now db.old version.now ≡ visit_of db.new v) }
 {

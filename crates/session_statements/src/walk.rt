@@ -1,6 +1,6 @@
 //! How a statement goes from one of its targets to the next, up to the one at which it stops.
 
-ghost use Rattle.std.specs.Prelude.{◌≡◌, ◌+◌, ◌<◌, ◌^◌, List, Some, drop, length, option_map, IfOk, OnOk};
+ghost use Rattle.std.specs.Prelude.{◌≡◌, List, Some, drop, option_map, IfOk, OnOk};
 ghost use Rattle.sql_trees.specs.Statements.{items_of};
 ghost use Rattle.sql_values.specs.declared.value.Value.{Value as SqlValue};
 ghost use Rattle.row_versions.specs.Log.{Content, IsOpen};
@@ -118,9 +118,7 @@ pub(crate) fn end<'a, 't, V: Versions>(
     rows: Vec<Row>,
     targets: Vec<Seen>,
 ) -> Result<Effect<'t>, AllocError>
-    requires opened { IsOpen db.old.content work.now.t.tx }
-    requires room { work.now.t.command + 1 < 2 ^ 64 }
-    requires within { work.now.table < length db.old.catalog.tables }
+    requires work { IsAtWork db.old work.now }
     ensures did { (before : Content) → before.fates ≡ db.old.content.fates → IfOk result (λ did.
         halted_walk before work.now (answer (columns_in db.old work.now) (option_map (λ is. items_of is.now) items.entry)) db.old rows.items halted.entry ≡ left db.new did) }
     ensures kept { IfOk result (λ did. HasKept work.now targets.items did.statement did.targets) }

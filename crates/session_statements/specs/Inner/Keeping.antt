@@ -2,6 +2,7 @@
 use Rattle.std.specs.Prelude.{◌≡◌, ℕ, ◌<◌, ◌+◌, ◌^◌, List, length, All, Some, slice_get}
 use Rattle.update_recheck.specs.Outcome.{Outcome}
 use Rattle.update_recheck.specs.Outcome.Outcome.{Takes}
+use Rattle.session_machine.specs.declared.session.OpenTransaction.{OpenTransaction}
 use Rattle.session_machine.specs.Rows.{Work, columns_in, values_of}
 use Rattle.row_versions.specs.declared.names.RowId.{RowId}
 use Rattle.row_versions.specs.declared.write.Write.{Write}
@@ -33,9 +34,13 @@ abbrev pub CanTake : Database → Work → Outcome → Type 0
 CanTake db w (Takes seen) = length (values_of db seen) ≡ length (columns_in db w)
 CanTake db w outcome = Unit {0}
 
--- a statement is at work: its transaction is open, its table is there, rows are where they belong, and one more command can be counted
-pub record IsAtWork (db : Database) (w : Work) : Type 0 where
-  pub opened : IsOpen db.content w.t.tx
-  pub room : w.t.command + 1 < 2 ^ 64
-  pub within : w.table < length db.catalog.tables
+-- what a statement may rely on that runs in an open transaction: one more command can be counted in it, and rows fit their tables and stay in them
+pub record IsRunning (db : Database) (t : OpenTransaction) : Type 0 where
+  pub opened : IsOpen db.content t.tx
+  pub room : t.command + 1 < 2 ^ 64
   pub orderly : IsOrderly db
+
+-- and one that is at work at its table: the table is there
+pub record IsAtWork (db : Database) (w : Work) : Type 0 where
+  pub running : IsRunning db w.t
+  pub within : w.table < length db.catalog.tables

@@ -13,10 +13,10 @@ use Rattle.session_statements.proofs.Kept.{locked_targets, targets_in}
 use Rattle.session_statements.proofs.begin.go_on.Goals as goal
 
 pub go_over-requires-clause-its : goal.go_over-requires-clause-its
-go_over-requires-clause-its g c = targets_in c.args.db.now c.args.work.now (stmt_of c.args.stmt.now) c.args.targets.items c.requires.work.orderly.1 c.requires.targets
+go_over-requires-clause-its g c = targets_in c.args.db.now c.args.work.now (stmt_of c.args.stmt.now) c.args.targets.items c.requires.work.running.orderly.1 c.requires.targets
 
 pub go_over-requires-in-Some-clause-its : goal.go_over-requires-in-Some-clause-its
-go_over-requires-in-Some-clause-its g c = targets_in c.args.db.now c.args.work.now (stmt_of c.args.stmt.now) c.args.targets.items c.requires.work.orderly.1 c.requires.targets
+go_over-requires-in-Some-clause-its g c = targets_in c.args.db.now c.args.work.now (stmt_of c.args.stmt.now) c.args.targets.items c.requires.work.running.orderly.1 c.requires.targets
 
 pub returns-in-Delete-clause-did : goal.returns-in-Delete-clause-did
 returns-in-Delete-clause-did g c =

@@ -9,15 +9,15 @@ use Rattle.session_database.specs.Stops.{meets_of}
 use Rattle.session_statements.specs.Inner.Acting.{putting_of, visit_of}
 use Rattle.session_statements.proofs.insert.insert_made.Goals as goal
 
-pub returns-in-Some-clause-made : goal.returns-in-Some-clause-made
-returns-in-Some-clause-made g c =
+pub returns-in-Some : goal.returns-in-Some
+returns-in-Some g c =
     let db = c.args.db.now in
     let w = c.args.work.now in
     let due = shows w (putting_of c.args.put.now).returning (inserted db w c.args.values) c.args.values in
     c.in_ok-met.ensures due ∙ ap (λ (o : Option Meets). unless_met db due (option_map meets_of o)) c.in-Some.is ∙ c.at_key.ensures db
 
-pub returns-clause-made : goal.returns-clause-made
-returns-clause-made g c =
+pub returns : goal.returns
+returns g c =
     let db = c.args.db.now in
     let w = c.args.work.now in
     let after = inserted db w c.args.values in

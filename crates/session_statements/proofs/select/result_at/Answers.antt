@@ -8,7 +8,7 @@ use Rattle.row_versions.specs.declared.write.Seen.{Seen}
 use Rattle.row_versions.specs.Log.{values_at}
 use Rattle.query_results.specs.Queries.{result_of}
 use Rattle.session_machine.specs.Views.{rows_shown}
-use Rattle.session_machine.specs.Inner.Pieces.{table_columns}
+use Rattle.session_machine.specs.Rows.{columns_in}
 use Rattle.session_statements.proofs.Lent.{lent_fit}
 use Rattle.session_statements.proofs.select.result_at.Goals as goal
 
@@ -19,9 +19,9 @@ result_of-requires g c k d h =
     let now = λ (r : Bor Row). r.now in
     let same : map now c.as_slice.result.now ≡ rows_shown db.content w.view w.table =
     ap (map now) c.as_slice.ensures.value ∙ c.in_ok-rows.ensures ∙ ap (map (λ (s : Seen). unwrap_or (values_at db.content s.place) [])) (c.deref.ensures.value ∙ c.in_ok-seen.ensures) in
-    let long : length (table_columns db.catalog w.table) ≡ length c.columns_in.result.now =
+    let long : length (columns_in db w) ≡ length c.columns_in.result.now =
     sym (ap length c.columns_in.ensures) ∙ length-map c.columns_in.result.now column_of in
-    lent_fit now c.as_slice.result.now db.content db.catalog w.view w.table c.requires.fit c.requires.within same k d h ∙ long
+    lent_fit now c.as_slice.result.now db w c.requires.work.running.orderly same k d h ∙ long
 
 pub returns : goal.returns
 returns g c =

@@ -8,9 +8,9 @@ use Rattle.row_versions.specs.declared.write.Seen.{Seen}
 use Rattle.row_versions.specs.Log.{values_at}
 use Rattle.session_queries.specs.Code.Fronts.{AnswersList}
 use Rattle.query_results.specs.Queries.{cols_of, passing}
-use Rattle.session_machine.specs.Rows.{cols_in}
+use Rattle.session_machine.specs.Rows.{cols_in, columns_in}
 use Rattle.session_machine.specs.Targets.{at_places}
-use Rattle.session_machine.specs.Inner.Pieces.{shown_to, table_columns}
+use Rattle.session_machine.specs.Inner.Pieces.{shown_to}
 use Rattle.session_statements.proofs.Lent.{lent_fit}
 use Rattle.session_statements.proofs.targets.passing_targets.Goals as goal
 
@@ -21,9 +21,9 @@ passing_places-places-requires g c k d h =
     let now = λ (r : Bor Row). r.now in
     let same : map now c.deref-2.result.now ≡ shown_to db w =
     ap (map now) c.deref-2.ensures.value ∙ c.in_ok-rows.ensures ∙ ap (map (λ (s : Seen). unwrap_or (values_at db.content s.place) [])) (c.deref.ensures.value ∙ c.in_ok-seen.ensures) in
-    let long : length (table_columns db.catalog w.table) ≡ length c.columns_in.result.now =
+    let long : length (columns_in db w) ≡ length c.columns_in.result.now =
     sym (ap length c.columns_in.ensures) ∙ length-map c.columns_in.result.now column_of in
-    lent_fit now c.deref-2.result.now db.content db.catalog w.view w.table c.requires.orderly.0 c.requires.within same k d h ∙ long
+    lent_fit now c.deref-2.result.now db w c.requires.work.running.orderly same k d h ∙ long
 
 pub returns : goal.returns
 returns g c =

@@ -12,7 +12,7 @@ use Rattle.session_statements.proofs.Kept.{targets_in}
 use Rattle.session_statements.proofs.update.update_from.Goals as goal
 
 pub go_over-requires-clause-its : goal.go_over-requires-clause-its
-go_over-requires-clause-its g c = targets_in c.args.db.now c.args.work.now (Updates (update_of c.args.stmt.now)) c.args.targets.items c.requires.work.orderly.1 c.requires.targets
+go_over-requires-clause-its g c = targets_in c.args.db.now c.args.work.now (Updates (update_of c.args.stmt.now)) c.args.targets.items c.requires.work.running.orderly.1 c.requires.targets
 
 pub returns-clause-did : goal.returns-clause-did
 returns-clause-did g c =

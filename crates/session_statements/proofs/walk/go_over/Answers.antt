@@ -9,10 +9,14 @@ use Rattle.session_statements.specs.Inner.Acting.{halted_walk, items_in, visit_a
 use Rattle.session_statements.specs.Inner.Keeping.{RowsIn}
 use Rattle.session_statements.specs.Inner.Left.{left}
 use Rattle.session_statements.proofs.Going.{same_end}
+use Rattle.session_statements.proofs.Visiting.{still_at_work}
 use Rattle.session_statements.proofs.walk.go_over.Goals as goal
 
 pub walk-requires-clause-its : goal.walk-requires-clause-its
 walk-requires-clause-its g c = subst (RowsIn c.args.db.now.content c.args.work.now.table) (sym c.deref.ensures.value) c.requires.its
+
+pub end-requires : goal.end-requires
+end-requires g c = record { work = still_at_work c.args.db.now c.walk.new.db c.args.work.now c.in_ok-halted.ensures.kept c.requires.work }
 
 pub returns-clause-did : goal.returns-clause-did
 returns-clause-did g c =
