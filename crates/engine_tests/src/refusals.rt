@@ -1,4 +1,4 @@
-//! Three runs in which statements wait. Each test also passes where any one allocation fails:
+//! Four runs in which statements wait. Each test also passes where any one allocation fails:
 //! the engine that was refused is then spent, its history is the one before that event, and the run is made again.
 
 use crate::tables::Given::{Launch, Step};
@@ -149,4 +149,50 @@ const CYCLE: Run<'static> = Run {
 #[test]
 fn a_cycle_of_keys_is_refused_memory(rt: HostRuntime) {
     goes(&rt, rt.alloc(), &CYCLE);
+}
+
+/// Sessions 2 and 3 wait for a key that session 1 takes back; session 2 then has it, and session 3 finds it taken.
+const FREED: [Line; 5] = [
+    (0, "CREATE TABLE t (k int PRIMARY KEY)", ""),
+    (1, "BEGIN", ""),
+    (1, "INSERT INTO t VALUES (1)", ""),
+    (1, "ROLLBACK", ""),
+    (2, "COMMIT", ""),
+];
+
+const FREED_CALLS: [Call; 18] = [
+    (Launch(0, 0), "answered"),
+    (Step(0), "answered and ended"),
+    (Launch(1, 1), "answered"),
+    (Step(1), "answered and ended"),
+    (Launch(2, 1), "answered"),
+    (Step(2), "answered and ended"),
+    (Launch(1, 2), "answered"),
+    (Step(1), "answered and ended"),
+    (Launch(2, 2), "answered"),
+    (Step(2), "answered waits"),
+    (Launch(3, 2), "answered"),
+    (Step(3), "answered waits"),
+    (Launch(1, 3), "answered"),
+    (Step(1), "answered and ended"),
+    (Step(2), "answered and ended"),
+    (Launch(2, 4), "answered"),
+    (Step(2), "answered and ended"),
+    (Step(3), "answered taken t_pkey and ended"),
+];
+
+const FREED_KEY: Run<'static> = Run {
+    lines: &FREED,
+    sessions: 4,
+    mode: Mode::Directed,
+    tries: &[
+        Try::Calls(&FREED_CALLS),
+        Try::Sights(&[(0, "t", " | 1")]),
+        Try::Rests(18),
+    ],
+};
+
+#[test]
+fn a_key_freed_by_rollback_is_refused_memory(rt: HostRuntime) {
+    goes(&rt, rt.alloc(), &FREED_KEY);
 }
