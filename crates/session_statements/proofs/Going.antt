@@ -43,12 +43,9 @@ goes_over at db w outcome place rows targets is = ap (λ (x : Result (List Seen)
 
 -- ---- one that ends
 
--- no transaction has ended since, so a transaction is in the same way begun, and ends its command in the same way
+-- no transaction has ended since, so a transaction is in the same way begun
 pub same_started : (before now : Content) (t : OpenTransaction) → before.fates ≡ now.fates → started before t ≡ started now t
 same_started before now t same = ap (λ (fates : List Fate). started (record now { fates = fates }) t) same
-
-pub same_answers : (before now : Content) (db : Database) (t : OpenTransaction) (outcome : Outcome) → before.fates ≡ now.fates → answers before db t outcome ≡ answers now db t outcome
-same_answers before now db t outcome same = ap (λ (fates : List Fate). answers (record now { fates = fates }) db t outcome) same
 
 -- the walk's database has the same columns
 pub same_end : (before : Content) (d e : Database) (w : Work) (items : Option (List ItemTree)) (rows : List (List Value)) (halt : Option Halt) → e.catalog ≡ d.catalog
@@ -65,22 +62,12 @@ at_found db t around name stmt (Some k) =
     let w = beginning db t around k in
     option_map_or (fails db t) (fault_in (columns_in db w) stmt) (go_from db w stmt 0 [])
 
-module _ (db : Database) (t : OpenTransaction) (around : Surroundings) (name : List ℕ) (stmt : StmtTree) where
-  pub begins_nowhere : find_table db (Some t.tx) name ≡ None → begin_at db t around name stmt ≡ fails db t (NoTable name)
-  begins_nowhere none = ap (at_found db t around name stmt) none
-
-  pub begins_wrong : (k : ℕ) (fault : StmtFault) → find_table db (Some t.tx) name ≡ Some k → fault_in (table_columns db.catalog k) stmt ≡ Some fault → begin_at db t around name stmt ≡ fails db t fault
-  begins_wrong k fault at wrong =
-      let w = beginning db t around k in
-      let due = go_from db w stmt 0 [] in
-      ap (at_found db t around name stmt) at ∙ ap (λ (o : Option StmtFault). option_map_or (fails db t) o due) wrong
-
-  pub begins_there : (k : ℕ) → find_table db (Some t.tx) name ≡ Some k → fault_in (table_columns db.catalog k) stmt ≡ None
-      → (let w = beginning db t around k in begin_at db t around name stmt ≡ go_from db w stmt 0 [])
-  begins_there k at right =
-      let w = beginning db t around k in
-      let due = go_from db w stmt 0 [] in
-      ap (at_found db t around name stmt) at ∙ ap (λ (o : Option StmtFault). option_map_or (fails db t) o due) right
+pub begins_there : (db : Database) (t : OpenTransaction) (around : Surroundings) (name : List ℕ) (stmt : StmtTree) (k : ℕ)
+    → find_table db (Some t.tx) name ≡ Some k → fault_in (table_columns db.catalog k) stmt ≡ None → (let w = beginning db t around k in begin_at db t around name stmt ≡ go_from db w stmt 0 [])
+begins_there db t around name stmt k at right =
+    let w = beginning db t around k in
+    let due = go_from db w stmt 0 [] in
+    ap (at_found db t around name stmt) at ∙ ap (λ (o : Option StmtFault). option_map_or (fails db t) o due) right
 
 -- ---- one that goes on, kind by kind
 
@@ -114,11 +101,6 @@ module _ (db : Database) (w : Work) (place : ℕ) (rows : List (List Value)) whe
         → o ≡ Some l → option_map_or (leads_to db w (Selects s)) (option_map (locked db w place rows s) o) due ≡ lock_from db w s l place rows
     by None runs h = cc
     by (Some m) runs h = runs ∙ ap (λ (x : Lock). lock_from db w s x place rows) (same_Some m l h)
-
-  pub locks_none : (s : SelectTree) → s.lock ≡ None → go_from db w (Selects s) place rows ≡ at_once db w.t (columns_in db w) (rows_shown db.content w.view w.table) (Selects s)
-  locks_none s none =
-      let due = at_once db w.t (columns_in db w) (rows_shown db.content w.view w.table) (Selects s) in
-      ap (λ (o : Option Lock). option_map_or (leads_to db w (Selects s)) (option_map (locked db w place rows s) o) due) none
 
 -- a SELECT that answers at once has its result, or its fault
 pub answers_at_once : (db : Database) (t : OpenTransaction) (columns : List ColumnTree) (rows : List (List Value)) (s : SelectTree) → at_once db t columns rows (Selects s) ≡ answered db t (result_of s columns rows)

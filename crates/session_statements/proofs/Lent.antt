@@ -1,6 +1,6 @@
 -- Rows that are lent out of a table have a value for each of its columns.
 use Rattle.std.proofs.Common.{◌≡◌, refl, true, ℕ, ◌<◌, List, [], length, map, get_or, ap, sym, ◌∙◌, subst, All}
-use Rattle.std.specs.Prelude.{Option, Some, None, is_some, slice_get, option_and_then, unwrap_or}
+use Rattle.std.specs.Prelude.{Option, Some, None, is_some, slice_get, unwrap_or}
 use Rattle.std.proofs.lemmas.List.{get_or-map, length-map}
 use Rattle.std.proofs.lemmas.List.Elements.{All-map, Contains-get_or}
 use Rattle.sql_values.specs.declared.value.Value.{Value}
