@@ -16,6 +16,8 @@ mod driven;
 #[cfg(test)]
 mod inserts;
 #[cfg(test)]
+mod kept;
+#[cfg(test)]
 mod keys;
 #[cfg(test)]
 mod orders;

@@ -4,6 +4,7 @@ use self::Given::{Launch, Leave, Step};
 use crate::stores::comes_to_the_same;
 use crate::trial::{Engine, Line, at_last, blocks, engine_of, holds, is_legal, run};
 use crate::words::{behind, behind_outcome, behind_rows, is_over, refusal_text};
+use row_versions::Seen;
 use session_core::replays;
 use session_machine::{EngineFault, HistItem, Mode, Reply, Turn};
 use sql_parser::Block;
@@ -155,6 +156,35 @@ fn all_see(rt: &impl Abort, engine: &Engine<'_>, sights: &[Sight]) -> Result<(),
     Ok(())
 }
 
+/// What a session has kept: rows, and the places of their versions.
+pub type Kept = (u32, Option<&'static [(u64, u64)]>);
+
+fn are_at(targets: &[Seen], places: &[(u64, u64)]) -> bool {
+    for (seen, place) in targets.iter().zip(places) {
+        if seen.row.0 != place.0 || seen.place != place.1 {
+            return false;
+        }
+    }
+    targets.len() == places.len()
+}
+
+fn keeps(engine: &Engine<'_>, kept: &Kept) -> bool {
+    match (engine.kept_targets(kept.0), kept.1) {
+        (Some(targets), Some(places)) => are_at(targets, places),
+        (None, None) => true,
+        _ => false,
+    }
+}
+
+fn all_keep(engine: &Engine<'_>, all: &[Kept]) -> bool {
+    for kept in all {
+        if !keeps(engine, kept) {
+            return false;
+        }
+    }
+    true
+}
+
 /// Whether nothing goes on, after so many events.
 fn rests(engine: &Engine<'_>, events: usize) -> bool {
     matches!(engine.turn(), Turn::Driver) && engine.quiet() && engine.history().len() == events
@@ -247,6 +277,8 @@ pub enum Try {
     Lines,
     Calls(&'static [Call]),
     Sights(&'static [Sight]),
+    /// The sessions have kept this of the statements that they are in the middle of.
+    Keep(&'static [Kept]),
     /// Nothing goes on, after so many events.
     Rests(usize),
     Replays,
@@ -277,6 +309,7 @@ fn is_tried(
         Try::Lines => return all_said(rt, engine, run.lines),
         Try::Calls(calls) => return have_answers(rt, alloc, engine, blocks, calls),
         Try::Sights(sights) => return all_see(rt, engine, sights),
+        Try::Keep(kept) => all_keep(engine, kept),
         Try::Rests(events) => rests(engine, events),
         Try::Replays => replays_alone(alloc, blocks, engine.history())?,
         Try::ReplaysFreely => replays_freely(alloc, blocks, engine.history())?,

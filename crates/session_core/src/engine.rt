@@ -8,11 +8,11 @@ ghost use Rattle.row_versions.specs.Log.{empty_content};
 ghost use Rattle.session_machine.specs.declared.reply.Reply.{Reply as ReplyFacts};
 ghost use Rattle.session_machine.specs.Machine.{opening, Run};
 ghost use Rattle.session_machine.specs.Engine.{EngineAnswered, IsDue, IsLegal, engine_after, fault_of, is_quiet_in, opened, spent_engine, turn_of, visible_in};
-ghost use Rattle.session_core.specs.Engines.{IsOf};
+ghost use Rattle.session_core.specs.Engines.{IsOf, KeepsTargets};
 
 use crate::kept::Kept;
 use crate::live::Live;
-use row_versions::Versions;
+use row_versions::{Seen, Versions};
 use session_laws::laws::stays_sound;
 use session_machine::{Answers, Engine, EngineFault, Event, HistItem, Mode, Refusal, Reply, Turn};
 use sql_blocks::{Block, same_blocks};
@@ -241,6 +241,17 @@ impl<'a, 't, V: Versions> EngineState<'a, 't, V> {
         ensures { result ≡ self.now.count }
     {
         self.count
+    }
+
+    /// The targets with which a session goes on that is in the middle of a statement: it has kept them since that began,
+    /// and they are those of the statement in the present state. `None` for the others. It takes no memory.
+    pub fn kept_targets(&self, session: u32) -> Option<&[Seen]>
+        ensures { KeepsTargets self.now session (option_map (λ targets. targets.now) result) }
+    {
+        if self.spent {
+            return None;
+        }
+        self.kept.of(session)
     }
 
     /// Whose turn it is. It takes no memory.

@@ -1,6 +1,7 @@
 //! The targets that sessions keep while they wait.
-ghost use Rattle.std.specs.Prelude.{◌≡◌, ◌+◌, ◌<◌, ◌≤◌, None, IfOk, length, replicate, slice_get, slice_set};
+ghost use Rattle.std.specs.Prelude.{◌≡◌, ◌+◌, ◌<◌, ◌≤◌, None, IfOk, length, option_map, replicate, slice_get, slice_set};
 ghost use Rattle.iso_lexer.specs.declared.limits.TheConstants.{MOST_SESSIONS};
+ghost use Rattle.session_core.specs.Inner.Kept.{kept_at};
 
 use row_versions::Seen;
 use std::alloc::{AllocError, Global};
@@ -42,6 +43,16 @@ impl Kept {
         ensures taken { self.new ≡ slice_set self.old session None }
     {
         self.lists[session as usize].take()
+    }
+
+    /// What the session has kept, if anything.
+    pub fn of(&self, session: u32) -> Option<&[Seen]>
+        ensures { option_map (λ targets. targets.now) result ≡ kept_at self.now session }
+    {
+        match self.lists.get(session as usize) {
+            Some(Some(targets)) => Some(targets),
+            _ => None,
+        }
     }
 
     /// The session keeps these targets.

@@ -1,5 +1,5 @@
 //! A session leaves.
-ghost use Rattle.std.specs.Prelude.{◌≡◌, ◌<◌, ◌+◌, ◌^◌, true, IfOk, IfErr, Ok, Err, length, slice_get};
+ghost use Rattle.std.specs.Prelude.{◌≡◌, ◌<◌, ◌+◌, ◌^◌, true, IfOk, IfErr, None, Ok, Err, length, slice_get, slice_set};
 ghost use Rattle.row_versions.specs.Log.{IsOpen};
 ghost use Rattle.session_machine.specs.declared.session.OpenTransaction.{OpenTransaction};
 ghost use Rattle.session_machine.specs.Machine.{at_rest, with_session};
@@ -7,6 +7,7 @@ ghost use Rattle.session_machine.specs.Inner.Steps.{leave_of, left_behind};
 ghost use Rattle.session_core.specs.Inner.Answers.{engine_answer};
 ghost use Rattle.session_machine.specs.Sound.{IsSoundMachine};
 
+use crate::kept::Kept;
 use crate::live::Live;
 use row_versions::Versions;
 use session_database::Database;
@@ -42,15 +43,19 @@ impl<'a, 't, V: Versions> Live<'a, 't, V> {
         Ok(current.transaction)
     }
 
-    /// Rolls a session's open transaction back and drops its block, or says why not.
-    pub fn leave(&mut self, mode: Mode, session: u32) -> Result<Reply<'t>, Refusal>
+    /// Rolls a session's open transaction back and drops its block, with what it has kept, or says why not.
+    pub fn leave(&mut self, kept: &mut Kept, mode: Mode, session: u32) -> Result<Reply<'t>, Refusal>
         requires sound { IsSoundMachine self.old }
         requires room { self.old.events + 1 < 2 ^ 64 }
-        ensures { engine_answer self.old (leave_of mode self.old session (slice_get self.old.sessions session)) ≡ record { machine = self.new; answer = result } }
+        requires lists { length kept.old ≡ length self.old.sessions }
+        ensures answer { engine_answer self.old (leave_of mode self.old session (slice_get self.old.sessions session)) ≡ record { machine = self.new; answer = result } }
+        ensures dropped { IfOk result (λ _. kept.new ≡ slice_set kept.old session None) }
+        ensures refused { IfErr result (λ _. kept.new ≡ kept.old) }
     {
         match self.leaving(mode, session) {
             Ok(transaction) => {
                 undo(&mut self.db, transaction);
+                kept.put(session, None);
                 self.set_session(session, Session::at_rest());
                 Ok(Reply {
                     outcome: Outcome::Left,

@@ -84,7 +84,7 @@ impl<'a, 't, V: Versions> Live<'a, 't, V> {
         match event {
             Event::Launch { session, block } => Ok(self.launch(blocks, mode, session, block)),
             Event::Step { session } => self.step(kept, blocks, mode, session),
-            Event::Leave { session } => Ok(self.leave(mode, session)),
+            Event::Leave { session } => Ok(self.leave(kept, mode, session)),
         }
     }
 

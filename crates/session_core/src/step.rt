@@ -1,5 +1,5 @@
 //! A session's statement begins, or goes on where it waits.
-ghost use Rattle.std.specs.Prelude.{◌≡◌, ◌+◌, ◌<◌, ◌^◌, ℕ, false, IfOk, IfErr, IfSome, OnErr, OnOk, Some, None, Ok, Err, is_none, length, slice_get, slice_set};
+ghost use Rattle.std.specs.Prelude.{◌≡◌, ◌+◌, ◌<◌, ◌^◌, ℕ, true, false, IfOk, IfErr, IfSome, OnErr, OnOk, Some, None, Ok, Err, is_none, is_some, length, slice_get, slice_set};
 ghost use Rattle.sql_blocks.specs.Blocks.{blocks_of};
 ghost use Rattle.row_versions.specs.Log.{IsOpen};
 ghost use Rattle.sql_trees.specs.Statements.{stmt_of};
@@ -165,10 +165,11 @@ impl<'a, 't, V: Versions> Live<'a, 't, V> {
         ensures after { after_stmt self.old session place count
             (record { db = self.old.db; transaction = did.entry.transaction; statement = did.entry.statement; outcome = did.entry.outcome })
             ≡ record { machine = self.new; reply = result } }
-        ensures kept { kept.new ≡ slice_set kept.old session did.entry.targets }
+        ensures stays { is_some did.entry.statement ≡ true → kept.new ≡ slice_set kept.old session did.entry.targets }
+        ensures over { is_some did.entry.statement ≡ false → kept.new ≡ kept.old }
     {
-        kept.put(session, did.targets);
         if did.statement.is_some() {
+            kept.put(session, did.targets);
             self.set_session(
                 session,
                 Session {

@@ -68,7 +68,7 @@ pub record AddsBy (x : TxId) (db e : Database) : Type 0 where
   pub mine : IsOpen e.content x
   pub all : Adds x db e
 
-abbrev by_rows : {x : TxId} {db e : Database} → AddsBy x db e → AreHeldBy x e
+abbrev pub by_rows : {x : TxId} {db e : Database} → AddsBy x db e → AreHeldBy x e
 by_rows p = record { mine = p.mine; all = p.all.rows }
 
 -- a lock more
@@ -141,7 +141,7 @@ rolled_back_less x d mine (Key k) tx u ne e = less_rolled_back d.content x k tx 
 set_fate : (fates : List Fate) (x : TxId) (f : Fate) (n : ℕ) → (n ≡ x.0 → ⊥) → slice_get fates n ≡ Some OpenFate → slice_get (set fates x.0 f) n ≡ Some OpenFate
 set_fate fates x f n ne h = slice_get-set_other fates x.0 n f ne ∙ h
 
-adds_keeps : (x : TxId) (n : ℕ) (db : Database) → Keeps x n (AddsBy x db) (Adds x db)
+pub adds_keeps : (x : TxId) (n : ℕ) (db : Database) → Keeps x n (AddsBy x db) (Adds x db)
 adds_keeps x n db = record {
   lock = λ d h own may p. let k = (held_keeps x n).lock d h own may (by_rows p) in record {
     mine = p.mine;
@@ -283,7 +283,7 @@ adds_begun db rows there = record {
   };
 }
 
-adds_start : (db : Database) (tr : Transaction) → ((n : ℕ) → tx_in tr ≡ Some n → slice_get db.content.fates n ≡ Some OpenFate) → AreHeld db → AddsBy (doer db tr) db (start db tr)
+pub adds_start : (db : Database) (tr : Transaction) → ((n : ℕ) → tx_in tr ≡ Some n → slice_get db.content.fates n ≡ Some OpenFate) → AreHeld db → AddsBy (doer db tr) db (start db tr)
 adds_start db Closed opened rows = adds_begun db rows (held_start db Closed opened rows)
 adds_start db Aborted opened rows = adds_begun db rows (held_start db Aborted opened rows)
 adds_start db (Open t) opened rows = record {
@@ -472,7 +472,7 @@ pub orderly_opening : (count : ℕ) → IsOrderly (opening count)
 orderly_opening count = record {
   opened = λ i n h. absurd (rest_tx (count + 1) i n h);
   apart = λ i j n h k. absurd (rest_tx (count + 1) i n h);
-  rows = record { known = λ k v e. cc; held = λ k v e o. cc; rows = λ k v e. cc; locks = λ h e. cc; apart = λ row a b s t ne e k. cc };
+  rows = record { known = λ k v e. cc; held = λ k v e o. cc; rows = λ k v e. cc; locks = λ h e. cc; opened = λ h e. cc; apart = λ row a b s t ne e k. cc };
   free = λ a b e l. let w = edge_from empty_database (replicate (count + 1) at_rest) a b e in rest_edge (count + 1) w.0 w.1 a b w.2 w.3;
 }
 

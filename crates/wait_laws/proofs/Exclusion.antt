@@ -16,7 +16,7 @@ use Rattle.row_versions.proofs.Gets.{get-append_left, get-append_last}
 use Rattle.row_locks.specs.declared.held.Held.{Held}
 use Rattle.row_versions.specs.Members.{has, same_tx, is_none_of}
 use Rattle.row_locks.specs.Held.{conflicts, holders_against, holds, released, same_lock, same_strength, with_lock}
-use Rattle.row_locks.proofs.Holding.{blockers_hold, conflicts_both_ways}
+use Rattle.row_locks.proofs.Holding.{blockers_hold, conflicts_both_ways, ends_let_go, released as released_holds}
 use Rattle.row_locks.proofs.Cases.{bool_is, or_cases, or_left, or_right, and_both, same_is}
 use Rattle.session_machine.specs.declared.session.Transaction.{Transaction}
 use Rattle.session_machine.specs.declared.session.Transaction.TheVariants.{Closed, Open, Aborted}
@@ -39,12 +39,14 @@ pub record IsHeldFor (held : List Held) (place : ℕ) (w : Write) : Type 0 where
   pub enough : lets_write strength w.values ≡ true
   pub inserted : w.row.0 ≡ place → strength ≡ Update
 
--- each write is of a transaction that has begun, and that holds its row while it is open; what is written and locked is in the log; and no two hold a row in conflict
+-- each write is of a transaction that has begun, and that holds its row while it is open; what is written and locked is in the log; who holds a row is open; and no two hold
+-- one in conflict
 pub record AreHeld (db : Database) : Type 0 where
   pub known : (place : ℕ) (w : Write) → slice_get db.content.log place ≡ Some w → w.tx.0 < length db.content.fates
   pub held : (place : ℕ) (w : Write) → slice_get db.content.log place ≡ Some w → IsOpen db.content w.tx → IsHeldFor db.held place w
   pub rows : (place : ℕ) (w : Write) → slice_get db.content.log place ≡ Some w → w.row.0 < length db.content.log
   pub locks : (h : Held) → holds db.held h ≡ true → h.row.0 < length db.content.log
+  pub opened : (h : Held) → holds db.held h ≡ true → IsOpen db.content h.tx
   pub apart : (row : RowId) (a b : TxId) (s t : Strength) → (a ≡ b → ⊥) → holds db.held (lock row a s) ≡ true → holds db.held (lock row b t) ≡ true → conflicts s t ≡ false
 
 -- while a transaction is at work it is open
@@ -92,7 +94,7 @@ writes_apart db p i j v w at there v_open w_open row = ⊎_elim (λ e. let mk : 
       (subst (λ (r : RowId). holds db.held (lock r w.tx other.strength) ≡ true) (sym (ap mk row)) other.locked)
 
 -- a transaction that ends isn't open
-not_open : (fs : List Fate) (i : ℕ) (f : Fate) → (f ≡ OpenFate → ⊥) → slice_get (set fs i f) i ≡ Some OpenFate → ⊥
+pub not_open : (fs : List Fate) (i : ℕ) (f : Fate) → (f ≡ OpenFate → ⊥) → slice_get (set fs i f) i ≡ Some OpenFate → ⊥
 not_open [] i f ne h = cc
 not_open (y ∷ ys) zero f ne h = ne (same f h) where
   same : (g : Fate) → Some g ≡ Some OpenFate → g ≡ OpenFate
@@ -100,7 +102,7 @@ not_open (y ∷ ys) zero f ne h = ne (same f h) where
 not_open (y ∷ ys) (suc i) f ne h = not_open ys i f ne h
 
 -- what others hold stays
-holds_left : (held : List Held) (x : TxId) (h : Held) → (h.tx ≡ x → ⊥) → holds held h ≡ true → holds (released x held) h ≡ true
+pub holds_left : (held : List Held) (x : TxId) (h : Held) → (h.tx ≡ x → ⊥) → holds held h ≡ true → holds (released x held) h ≡ true
 holds_left [] x h ne e = cc
 holds_left (g ∷ held) x h ne e = at (holds_left held x h ne) (bool_is (same_tx g.tx x)) (or_cases (same_lock g h) (holds held h) e) where
   kept : (b : Bool) → same_tx g.tx x ≡ b → b ≡ false → (same_lock g h || holds (released x held) h) ≡ true → holds (released x (g ∷ held)) h ≡ true
@@ -122,6 +124,12 @@ holds_left (g ∷ held) x h ne e = at (holds_left held x h ne) (bool_is (same_tx
   at on (inr f) (inl k) = kept false f refl (or_left (same_lock g h) (holds (released x held) h) k)
   at on (inr f) (inr k) = kept false f refl (or_right (same_lock g h) (holds (released x held) h) (on k))
 
+-- and of the transaction itself nothing is held
+released_not : (held : List Held) (x : TxId) (h : Held) → h.tx ≡ x → holds (released x held) h ≡ true → ⊥
+released_not held x h is e = never (sym ((ends_let_go held (released x held) x (released_holds held x)).0 h is) ∙ e) where
+  never : false ≡ true → ⊥
+  never k = cc
+
 -- a row is held for its write where what the write's transaction holds of it stays
 still_held : (held others : List Held) (place : ℕ) (w : Write) → ((s : Strength) → holds held (lock_of_write s w) ≡ true → holds others (lock_of_write s w) ≡ true)
     → IsHeldFor held place w → IsHeldFor others place w
@@ -139,6 +147,9 @@ held_ends x d f ne h = record {
       (cases_eq w.tx.0 x.0);
   rows = h.rows;
   locks = λ l e. h.locks l (holds_released d.held x l e);
+  opened = λ l e.
+      let other : l.tx.0 ≡ x.0 → ⊥ = λ f. let mk : ℕ → TxId = λ n. record { 0 = n } in released_not d.held x l (ap mk f) e in
+      slice_get-set_other d.content.fates x.0 l.tx.0 f other ∙ h.opened l (holds_released d.held x l e);
   apart = λ row a b s t ne e k. h.apart row a b s t ne (holds_released d.held x (lock row a s) e) (holds_released d.held x (lock row b t) k);
 }
 
@@ -174,8 +185,8 @@ apart_more held l free old row a b s t ne e k = by (holds_more held l (lock row 
   by (inl f) (inr g) = second g f
   by (inr f) (inr g) = absurd (ne (sym (ap (λ (h : Held). h.tx) f) ∙ ap (λ (h : Held). h.tx) g))
 
-held_lock : (x : TxId) (d : Database) (h : Held) → MayTake d h → AreHeldBy x d → AreHeldBy x (record d { held = with_lock d.held h })
-held_lock x d h may p = record {
+held_lock : (x : TxId) (d : Database) (h : Held) → h.tx ≡ x → MayTake d h → AreHeldBy x d → AreHeldBy x (record d { held = with_lock d.held h })
+held_lock x d h own may p = record {
   mine = p.mine;
   all = record {
     known = p.all.known;
@@ -183,6 +194,7 @@ held_lock x d h may p = record {
     rows = p.all.rows;
     locks = λ l e. ⊎_elim (p.all.locks l) (λ is. let a = p.all.rows may.place may.write may.there in let b = may.its in
         let c : h.row.0 ≡ l.row.0 = ap (λ (g : Held). g.row.0) is in omega arith) (holds_more d.held h l e);
+    opened = λ l e. ⊎_elim (p.all.opened l) (λ is. subst (IsOpen d.content) (sym own ∙ ap (λ (g : Held). g.tx) is) p.mine) (holds_more d.held h l e);
     apart = apart_more d.held h (λ b t ne e. free_apart d.held h.row h.tx b h.strength t ne may.free e) p.all.apart;
   };
 }
@@ -190,9 +202,10 @@ held_lock x d h may p = record {
 -- the transaction writes a row that it holds, among locks of which those that were held before are some
 held_wrote : (x : TxId) (d : Database) (w : Write) (locks : List Held) → w.tx ≡ x → IsHeldFor locks (length d.content.log) w
     → ((h : Held) → holds d.held h ≡ true → holds locks h ≡ true) → ((h : Held) → holds locks h ≡ true → h.row.0 ≤ length d.content.log)
+    → ((h : Held) → holds locks h ≡ true → IsOpen d.content h.tx)
     → ((row : RowId) (a b : TxId) (s t : Strength) → (a ≡ b → ⊥) → holds locks (lock row a s) ≡ true → holds locks (lock row b t) ≡ true → conflicts s t ≡ false)
     → AreHeldBy x d → AreHeldBy x (record d { content = after_write d.content w; held = locks })
-held_wrote x d w locks own its before within apart p =
+held_wrote x d w locks own its before within opened apart p =
     let long = length-append d.content.log (w ∷ []) in
     record {
       mine = p.mine;
@@ -210,13 +223,14 @@ held_wrote x d w locks own its before within apart p =
           | inr k ↦ let l = within (lock_of_write its.strength w) its.locked in let e : w.row.0 ≡ v.row.0 = ap (λ (y : Write). y.row.0) k.1 in omega arith
         ];
         locks = λ h e. let l = within h e in omega arith;
+        opened = opened;
         apart = apart;
       };
     }
 
 held_write : (x : TxId) (d : Database) (w : Write) (s : Strength) → w.tx ≡ x → lets_write s w.values ≡ true → holds d.held (lock_of_write s w) ≡ true → AreHeldBy x d
     → AreHeldBy x (record d { content = after_write d.content w })
-held_write x d w s own enough locked p = held_wrote x d w d.held own its (λ h e. e) (λ h e. let l = p.all.locks h e in omega arith) p.all.apart p where
+held_write x d w s own enough locked p = held_wrote x d w d.held own its (λ h e. e) (λ h e. let l = p.all.locks h e in omega arith) p.all.opened p.all.apart p where
   its : IsHeldFor d.held (length d.content.log) w
   its = record {
     strength = s;
@@ -235,15 +249,16 @@ held_insert x d w own made p =
       | inl k ↦ let l = p.all.locks h k in omega arith
       | inr k ↦ let f : w.row.0 ≡ h.row.0 = ap (λ (g : Held). g.row.0) k in omega arith
     ])
+    (λ h e. ⊎_elim (p.all.opened h) (λ is. subst (IsOpen d.content) (sym own ∙ ap (λ (g : Held). g.tx) is) p.mine) (holds_more d.held new h e))
     (apart_more d.held new (λ b t ne e. let l = p.all.locks (lock w.row b t) e in let z : ⊥ = omega arith in absurd z) p.all.apart) p
 
 pub held_keeps : (x : TxId) (n : ℕ) → Keeps x n (AreHeldBy x) AreHeld
 held_keeps x n = record {
-  lock = λ d h own may p. held_lock x d h may p;
+  lock = λ d h own may p. held_lock x d h own may p;
   insert = λ d w own now made p. held_insert x d w own made p;
   write = λ d w strength own now enough locked p. held_write x d w strength own enough locked p;
-  create = λ d made p. record { mine = p.mine; all = record { known = p.all.known; held = p.all.held; rows = p.all.rows; locks = p.all.locks; apart = p.all.apart } };
-  drop = λ d k p. record { mine = p.mine; all = record { known = p.all.known; held = p.all.held; rows = p.all.rows; locks = p.all.locks; apart = p.all.apart } };
+  create = λ d made p. record { mine = p.mine; all = record { known = p.all.known; held = p.all.held; rows = p.all.rows; locks = p.all.locks; opened = p.all.opened; apart = p.all.apart } };
+  drop = λ d k p. record { mine = p.mine; all = record { known = p.all.known; held = p.all.held; rows = p.all.rows; locks = p.all.locks; opened = p.all.opened; apart = p.all.apart } };
   commit = λ d p. held_ends x d (Committed (commit_count d.content)) (λ e. cc) p.all;
   roll_back = λ d p. held_ends x d RolledBack (λ e. cc) p.all;
   rest = λ d p. p.all;
@@ -257,6 +272,7 @@ held_begun db h = record {
     held = λ place w at is. h.held place w at (sym (get-append_left db.content.fates (OpenFate ∷ []) w.tx.0 (h.known place w at)) ∙ is);
     rows = h.rows;
     locks = h.locks;
+    opened = λ l e. let o = h.opened l e in get-append_left db.content.fates (OpenFate ∷ []) l.tx.0 (slice_get_within db.content.fates l.tx.0 OpenFate o) ∙ o;
     apart = h.apart;
   };
 }

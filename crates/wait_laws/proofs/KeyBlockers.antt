@@ -222,7 +222,7 @@ more_begun c k tx u known h =
     (way_kept c (after_begin c) k tx f.write (λ o. ap is_open_fate (fate_kept c f.write.tx (known f.place f.write f.there)) ∙ o)
     (committed_as (has_committed c) (has_committed (after_begin c)) c.log k.columns k.values f.write.row (λ place w there at. sym (ap is_committed (fate_kept c w.tx (known place w there))))) (λ o. o) f.passes)
 
--- ---- one ends: of the others nobody blocks more
+-- ---- one ends: of the others nobody blocks more, and nobody less
 
 -- no two open transactions wrote one row
 abbrev pub AreApart : Content → Type 0
@@ -245,27 +245,54 @@ less_ended c x fate k tx u ne same h =
     (way_kept (ended c x fate) c k tx f.write (λ o. was_open)
     (committed_as (has_committed (ended c x fate)) (has_committed c) c.log k.columns k.values f.write.row (same f.write f.place f.there (open_is _ was_open) other)) (λ o. o) f.passes)
 
+more_ended : (c : Content) (x : TxId) (fate : Fate) (k : AskedKey) (tx u : TxId) → (u ≡ x → ⊥)
+    → ((v : Write) (i : ℕ) → slice_get c.log i ≡ Some v → IsOpen c v.tx → (v.tx ≡ x → ⊥) → (place : ℕ) (w : Write) → slice_get c.log place ≡ Some w → (w.row.0 == v.row.0) ≡ true
+    → has_committed (ended c x fate) w.tx ≡ has_committed c w.tx)
+    → has (blocking c k tx) u ≡ true → has (blocking (ended c x fate) k tx) u ≡ true
+more_ended c x fate k tx u ne same h =
+    let f = blocks_from c k tx u h in
+    let other : f.write.tx ≡ x → ⊥ = λ e. ne (sym f.its ∙ e) in
+    let mk : ℕ → TxId = λ n. record { 0 = n } in
+    let fates : slice_get (set c.fates x.0 fate) f.write.tx.0 ≡ slice_get c.fates f.write.tx.0 = slice_get-set_other c.fates x.0 f.write.tx.0 fate (λ e. other (ap mk e)) in
+    let was_open : is_open c.fates f.write.tx ≡ true = active_in c k tx f.write f.passes in
+    blocks_to (ended c x fate) k tx u f.place f.write f.there f.its
+    (way_kept c (ended c x fate) k tx f.write (λ o. ap is_open_fate fates ∙ o)
+    (committed_as (has_committed c) (has_committed (ended c x fate)) c.log k.columns k.values f.write.row
+    (λ place w there at. sym (same f.write f.place f.there (open_is _ was_open) other place w there at))) (λ o. o) f.passes)
+
+rolled_back_as : (c : Content) (x : TxId) → IsOpen c x → (w : Write) → has_committed (after_roll_back c x) w.tx ≡ has_committed c w.tx
+rolled_back_as c x is_open_now w = ⊎_elim
+    (λ (e : w.tx.0 ≡ x.0).
+    ap (λ n. is_committed (slice_get (set c.fates x.0 RolledBack) n)) e
+    ∙ (ap is_committed (slice_get-set_same c.fates x.0 RolledBack (slice_get_within c.fates x.0 OpenFate is_open_now)) ∙ sym (ap (λ n. is_committed (slice_get c.fates n)) e ∙ ap is_committed is_open_now)))
+    (λ other. ap is_committed (slice_get-set_other c.fates x.0 w.tx.0 RolledBack other))
+    (cases_eq w.tx.0 x.0)
+
 pub less_rolled_back : (c : Content) (x : TxId) (k : AskedKey) (tx u : TxId) → IsOpen c x → (u ≡ x → ⊥) → has (blocking (after_roll_back c x) k tx) u ≡ true → has (blocking c k tx) u ≡ true
-less_rolled_back c x k tx u is_open_now ne h = less_ended c x RolledBack k tx u ne (λ v i at o other place w there row. by w) h where
-  by : (w : Write) → has_committed (after_roll_back c x) w.tx ≡ has_committed c w.tx
-  by w = ⊎_elim
-      (λ (e : w.tx.0 ≡ x.0).
-      ap (λ n. is_committed (slice_get (set c.fates x.0 RolledBack) n)) e
-      ∙ (ap is_committed (slice_get-set_same c.fates x.0 RolledBack (slice_get_within c.fates x.0 OpenFate is_open_now)) ∙ sym (ap (λ n. is_committed (slice_get c.fates n)) e ∙ ap is_committed is_open_now)))
-      (λ other. ap is_committed (slice_get-set_other c.fates x.0 w.tx.0 RolledBack other))
-      (cases_eq w.tx.0 x.0)
+less_rolled_back c x k tx u is_open_now ne h = less_ended c x RolledBack k tx u ne (λ v i at o other place w there row. rolled_back_as c x is_open_now w) h
+
+pub more_rolled_back : (c : Content) (x : TxId) (k : AskedKey) (tx u : TxId) → IsOpen c x → (u ≡ x → ⊥) → has (blocking c k tx) u ≡ true → has (blocking (after_roll_back c x) k tx) u ≡ true
+more_rolled_back c x k tx u is_open_now ne h = more_ended c x RolledBack k tx u ne (λ v i at o other place w there row. rolled_back_as c x is_open_now w) h
+
+committed_at : (c : Content) (x : TxId) → IsOpen c x → AreApart c → (v : Write) (i : ℕ) → slice_get c.log i ≡ Some v → IsOpen c v.tx → (v.tx ≡ x → ⊥)
+    → (place : ℕ) (w : Write) → slice_get c.log place ≡ Some w → (w.row.0 == v.row.0) ≡ true → has_committed (after_commit c x) w.tx ≡ has_committed c w.tx
+committed_at c x is_open_now apart v i at o other place w there row = ⊎_elim
+    (λ (e : w.tx.0 ≡ x.0).
+    let mk : ℕ → TxId = λ n. record { 0 = n } in
+    let its : w.tx ≡ x = ap mk e in
+    absurd (other (sym (apart place i w v there at (subst (IsOpen c) (sym its) is_open_now) o (eqb-true w.row.0 v.row.0 row)) ∙ its)))
+    (λ ne. ap is_committed (slice_get-set_other c.fates x.0 w.tx.0 (Committed (commit_count c)) ne))
+    (cases_eq w.tx.0 x.0)
 
 pub less_committed : (c : Content) (x : TxId) (k : AskedKey) (tx u : TxId) → IsOpen c x → AreApart c → (u ≡ x → ⊥) → has (blocking (after_commit c x) k tx) u ≡ true → has (blocking c k tx) u ≡ true
-less_committed c x k tx u is_open_now apart ne h = less_ended c x (Committed (commit_count c)) k tx u ne by h where
-  by : (v : Write) (i : ℕ) → slice_get c.log i ≡ Some v → IsOpen c v.tx → (v.tx ≡ x → ⊥) → (place : ℕ) (w : Write) → slice_get c.log place ≡ Some w → (w.row.0 == v.row.0) ≡ true
-      → has_committed (after_commit c x) w.tx ≡ has_committed c w.tx
-  by v i at o other place w there row = ⊎_elim
-      (λ (e : w.tx.0 ≡ x.0).
-      let mk : ℕ → TxId = λ n. record { 0 = n } in
-      let its : w.tx ≡ x = ap mk e in
-      absurd (other (sym (apart place i w v there at (subst (IsOpen c) (sym its) is_open_now) o (eqb-true w.row.0 v.row.0 row)) ∙ its)))
-      (λ ne. ap is_committed (slice_get-set_other c.fates x.0 w.tx.0 (Committed (commit_count c)) ne))
-      (cases_eq w.tx.0 x.0)
+less_committed c x k tx u is_open_now apart ne h = less_ended c x (Committed (commit_count c)) k tx u ne (committed_at c x is_open_now apart) h
+
+pub more_committed : (c : Content) (x : TxId) (k : AskedKey) (tx u : TxId) → IsOpen c x → AreApart c → (u ≡ x → ⊥) → has (blocking c k tx) u ≡ true → has (blocking (after_commit c x) k tx) u ≡ true
+more_committed c x k tx u is_open_now apart ne h = more_ended c x (Committed (commit_count c)) k tx u ne (committed_at c x is_open_now apart) h
+
+-- who blocks a key is open
+pub blocker_is_open : (c : Content) (k : AskedKey) (tx u : TxId) → has (blocking c k tx) u ≡ true → IsOpen c u
+blocker_is_open c k tx u h = let f = blocks_from c k tx u h in subst (IsOpen c) f.its (open_is _ (active_in c k tx f.write f.passes))
 
 -- ---- a list of blockers
 

@@ -7,6 +7,7 @@ pub mod Events
 pub mod Edges
 pub mod Exclusion
 pub mod Cycles
+pub mod Mending
 pub mod Alone
 pub mod Counting
 pub mod Rest

@@ -18,7 +18,7 @@ use Rattle.sql_trees.specs.declared.stmt.Policy.TheVariants.{Wait}
 use Rattle.row_locks.specs.declared.held.Held.{Held}
 use Rattle.row_locks.specs.Held.{conflicts, holds}
 use Rattle.row_locks.specs.Waiting.{Waiting}
-use Rattle.row_versions.specs.Members.{is_none_of}
+use Rattle.row_versions.specs.Members.{has, is_none_of}
 use Rattle.row_locks.specs.Cycles.{blocks, Closes, NoCycle, AllEnd}
 use Rattle.update_recheck.specs.Asked.{Asked}
 use Rattle.update_recheck.specs.Outcome.{Version, Same, Gone, Newer, row_blockers as target_blockers, newest_version, target_outcome}
@@ -28,6 +28,7 @@ use Rattle.row_versions.specs.declared.write.Seen.{Seen}
 use Rattle.session_machine.specs.declared.session.OpenTransaction.{OpenTransaction}
 use Rattle.session_machine.specs.declared.session.Place.{Place}
 use Rattle.session_machine.specs.declared.session.Progress.{Progress}
+use Rattle.session_machine.specs.declared.session.Request.{Request}
 use Rattle.session_machine.specs.declared.session.Request.TheVariants.{Row, Key}
 use Rattle.session_machine.specs.declared.session.Session.{Session}
 use Rattle.session_machine.specs.declared.session.Transaction.{Transaction}
@@ -144,6 +145,23 @@ abbrev pub WritesAreHeld : Type 0
 WritesAreHeld = (given : Blocks) (mode : Mode) (count : ℕ) (m : Machine) → Reaches given mode count m
     → (place : ℕ) (w : Write) → slice_get m.db.content.log place ≡ Some w → IsOpen m.db.content w.tx → IsHeldToWrite m.db place w
 
+-- the transaction in which a statement begins: the session's own, or one that begins with it, at Read Committed
+abbrev pub transaction_at : Content → Transaction → OpenTransaction
+transaction_at c (Open t) = t
+transaction_at c transaction = fresh c ReadCommitted false
+
+-- in every state who stands in the way of a request is open. And an event leaves each of them in the way that is open afterwards, and brings at most the transaction that
+-- does it: blockers come by their own doing, and go at their own end (13.3.2, and 5.5.3 of keys)
+pub record BlockersStayToTheirEnd : Type 0 where
+  pub opened : (given : Blocks) (mode : Mode) (count : ℕ) (m : Machine) → Reaches given mode count m
+      → (request : Request) (tx u : TxId) → IsTrue (has (blockers m.db request tx) u) → IsOpen m.db.content u
+  pub stay : (given : Blocks) (mode : Mode) (count : ℕ) (m : Machine) → Reaches given mode count m → (event : Event) (n : Next) → next given mode m event ≡ Ok n
+      → (request : Request) (tx u : TxId) → IsTrue (has (blockers m.db request tx) u) → IsOpen n.machine.db.content u → IsTrue (has (blockers n.machine.db request tx) u)
+  pub come : (given : Blocks) (mode : Mode) (count : ℕ) (m : Machine) → Reaches given mode count m → (event : Event) (n : Next) → next given mode m event ≡ Ok n
+      → (s : Session) → slice_get m.sessions (session_of event) ≡ Some s
+      → (request : Request) (tx u : TxId) → IsTrue (has (blockers n.machine.db request tx) u)
+      → IsTrue (has (blockers m.db request tx) u) ⊎ (u ≡ (transaction_at m.db.content s.transaction).tx)
+
 -- where a statement goes on, its targets are the same: those that pass WHERE, and those that a locking SELECT takes
 pub record SameTargets (before after : Database) (p : Progress) (t : OpenTransaction) (around : Surroundings) : Type 0 where
   pub passing : (filter : Option Tree) → passing_targets after (going_on t around p) filter ≡ passing_targets before (going_on t around p) filter
@@ -191,11 +209,6 @@ abbrev pub RunAtWork : Blocks → Mode → ℕ → Machine → List HistItem →
 RunAtWork given mode k m [] after = after ≡ m
 RunAtWork given mode k m (item ∷ items) after =
     (mid : Machine) × (s : Session) × (p : Progress) × Follows given mode m item mid × IsAtWork mid k s p × RunAtWork given mode k mid items after
-
--- the transaction in which a statement begins: the session's own, or one that begins with it, at Read Committed
-abbrev pub transaction_at : Content → Transaction → OpenTransaction
-transaction_at c (Open t) = t
-transaction_at c transaction = fresh c ReadCommitted false
 
 -- and the database then
 abbrev pub database_at : Database → Transaction → Database

@@ -9,5 +9,5 @@ returns-in-Launch-clause-kept g c count reached =
 
 pub returns-in-Leave-clause-kept : goal.returns-in-Leave-clause-kept
 returns-in-Leave-clause-kept g c count reached =
-    kept_left (blocks_of c.args.blocks.now) c.args.mode count c.args.self.now c.leave.new.self c.in-Leave.session c.leave.result c.args.kept.now reached c.requires.sound
-    c.leave.ensures c.requires.kept
+    kept_left (blocks_of c.args.blocks.now) c.args.mode count c.args.self.now c.leave.new.self c.in-Leave.session c.leave.result c.args.kept.now c.leave.new.kept reached c.requires.sound
+    c.leave.ensures.answer c.leave.ensures.dropped c.leave.ensures.refused c.requires.kept

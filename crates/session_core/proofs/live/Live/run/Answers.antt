@@ -1,5 +1,5 @@
 use Rattle.std.proofs.Common.{◌≡◌, ap, sym, ◌∙◌, ◌<◌, length, length-set, set, subst}
-use Rattle.std.specs.Prelude.{None, Some, slice_get}
+use Rattle.std.specs.Prelude.{None, Some, is_some, slice_get}
 use Rattle.std.proofs.lemmas.Option.{slice_get_within}
 use Rattle.sql_trees.specs.Statements.{stmt_of}
 use Rattle.row_versions.specs.Log.{IsOpen}
@@ -9,8 +9,7 @@ use Rattle.session_machine.specs.Sound.{RowsFit, RowsStay}
 use Rattle.session_machine.specs.declared.session.Session.{Session}
 use Rattle.session_laws.proofs.Lists.{slice_get-set_same}
 use Rattle.session_statements.specs.Targets.{AreKept}
-use Rattle.session_core.specs.Inner.Kept.{Lists}
-use Rattle.session_core.proofs.Holding.{left_at}
+use Rattle.session_core.proofs.Holding.{kept_by, kept_on, left_kept}
 use Rattle.session_core.proofs.Stepping.{left_open, opened_at, ran, ran_over, set_twice, stands_at, taken_out, there, within_at}
 use Rattle.session_core.proofs.live.Live.run.Goals as goal
 
@@ -121,8 +120,6 @@ returns-clause-kept g c =
     let stood : slice_get mid.sessions k ≡ Some rest =
     ap (λ (x : Machine). slice_get x.sessions k) is ∙ slice_get-set_same m.sessions k rest (slice_get_within m.sessions k s at) in
     let kept : AreKept m.db stmt d.statement targets = subst (λ (x : Machine). AreKept x.db stmt d.statement targets) is c.in_ok-did.ensures.kept in
-    record {
-      targets = targets;
-      is = c.go_on.ensures.kept ∙ (ap (λ (ks : Lists). set ks k targets) c.take-targets.ensures.taken ∙ set_twice c.args.kept.now k None targets);
-      its = λ u now. left_at mid c.go_on.new.self k rest u c.args.due.place c.args.due.at.count d c.go_on.result m.db stmt targets stood c.go_on.ensures.after now kept;
-    }
+    let lists : c.go_on.new.kept ≡ set c.args.kept.now k (left_kept (is_some d.statement) targets) =
+    kept_by (is_some d.statement) c.args.kept.now c.take-targets.new.self c.go_on.new.kept k targets c.take-targets.ensures.taken c.go_on.ensures.stays c.go_on.ensures.over in
+    kept_on mid c.go_on.new.self k rest c.args.due.place c.args.due.at.count d c.go_on.result m.db stmt targets c.args.kept.now c.go_on.new.kept stood c.go_on.ensures.after kept lists
