@@ -69,7 +69,7 @@ const GOES_ON: Run<'static> = Run {
         Try::Keep(&ITS),
         Try::Calls(&TO_ITS_END),
         Try::Keep(&NOBODYS),
-        Try::Sights(&[(1, "t", " | 4 | 2 | 21 | 31")]),
+        Try::Sights(&[(1, "t", " | 2 | 21 | 4 | 31")]),
     ],
 };
 
