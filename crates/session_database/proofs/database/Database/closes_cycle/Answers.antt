@@ -22,4 +22,4 @@ returns g c =
     let pairs : SamePairs waits now = subst (λ (x : Work). SamePairs waits (waits_in c.args.self.now x.around.sessions)) c.work.view_is c.in_ok-waits.ensures in
     IfOk-weaker c.closes.result _ _ (λ yes h others each.
     same_test _ yes (closes waits tx by) h (c.cycle_test_is_exact.ensures waits tx by)
-    ∙ c.cycles_by_who_blocks.ensures waits now pairs tx by others each ∙ ap (λ t. closes now t others) (ap (λ (x : Work). x.t.tx) c.work.view_is)) c.closes.ensures
+    ∙ c.cycles_by_who_blocks.ensures waits now pairs tx by others each ∙ ap (λ t. closes now t others) (ap (λ (x : Work). x.t.tx) c.work.view_is)) c.closes.ensures.cycle
