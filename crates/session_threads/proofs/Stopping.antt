@@ -1,6 +1,6 @@
 -- What stopped a run may stop it.
-use Rattle.std.proofs.Common.{◌≡◌, ◌⊎◌, inl, inr, ℕ, sym, subst, Option, Some, None}
-use Rattle.std.specs.Prelude.{IfSome}
+use Rattle.std.proofs.Common.{◌≡◌, ◌⊎◌, inl, inr, ℕ, List, refl, sym, subst, Option, Some, None}
+use Rattle.std.specs.Prelude.{IfErr, IfSome, Result, Ok, Err}
 use Rattle.session_machine.specs.declared.event.Mode.{Mode}
 use Rattle.session_machine.specs.declared.event.Mode.TheVariants.{Directed}
 use Rattle.session_machine.specs.declared.fault.EngineFault.{EngineFault}
@@ -12,6 +12,8 @@ use Rattle.session_seats.specs.declared.fault.ThreadFault.{ThreadFault}
 use Rattle.session_seats.specs.declared.fault.ThreadFault.TheVariants as thread_faults
 use Rattle.session_seats.specs.Orders.{Orders}
 use Rattle.session_seats.specs.Refusals.{CannotGoOn, IsStuck, IsUndone, MayMeet, MayStop}
+use Rattle.session_seats.specs.Seats.{SeatOf}
+use Rattle.session_threads.specs.Seats.{IsMisfit}
 use Rattle.session_threads.specs.Inner.Against.{IsAgainst, another, before, behind, seated}
 
 leads_to : (e : Engine) (machine : Option Machine) (state : Machine) → machine ≡ Some state → IfSome machine (λ m. Run e.blocks e.mode (opening e.count) e.history m) → Run e.blocks e.mode (opening e.count) e.history state
@@ -75,3 +77,23 @@ against_may orders blocks count e met late fault leads may seen (seated session 
 pub met_here : (orders own : Orders) (e : Engine) (met : Option ThreadFault) → own ≡ orders → IfSome met (MayMeet own e) → IfSome met (λ f. (f ≡ thread_faults.OtherRun) ⊎ MayMeet orders e f)
 met_here orders own e None same may = tt
 met_here orders own e (Some f) same may = inr (subst (λ (o : Orders). MayMeet o e f) same may)
+
+-- and so may that it stands at another place
+pub met_elsewhere : (orders : Orders) (e : Engine) (met : Option ThreadFault) → met ≡ Some thread_faults.OtherRun → IfSome met (λ f. (f ≡ thread_faults.OtherRun) ⊎ MayMeet orders e f)
+met_elsewhere orders e met is = subst (λ (m : Option ThreadFault). IfSome m (λ f. (f ≡ thread_faults.OtherRun) ⊎ MayMeet orders e f)) (sym is) (inl refl)
+
+-- a session's seats that don't fit are against closing a run
+pub seats_against : (is_of : Type 0) (met late : Option ThreadFault) (engine : Engine) (seats : List SeatOf) (refused : Option ThreadFault)
+    → IfSome refused (λ f. (s : ℕ) × (f ≡ thread_faults.SeatMismatch s) × IsMisfit engine seats s) → IfSome refused (IsAgainst is_of met late)
+seats_against is_of met late engine seats None is = tt
+seats_against is_of met late engine seats (Some f) is = seated is.0 is.1
+
+-- so the answer is one that may stop the run
+pub stopped_by : {A : Type 0} (orders : Orders) (blocks : Blocks) (count : ℕ) (was e : Engine) (met seen late : Option ThreadFault) (result : Result A ThreadFault)
+    → e ≡ was → late ≡ seen → IfSome was.machine (λ m. Run was.blocks was.mode (opening was.count) was.history m)
+    → IfSome met (λ f. (f ≡ thread_faults.OtherRun) ⊎ MayMeet orders was f) → IfSome seen (λ f. f ≡ thread_faults.OtherRun)
+    → IfErr result (IsAgainst (IsOf e blocks count Directed) met late) → IfErr result (MayStop orders blocks count)
+stopped_by {A = A} orders blocks count was e met seen late (Ok closed) same kept leads may told against = tt
+stopped_by {A = A} orders blocks count was e met seen late (Err fault) same kept leads may told against =
+    against_may orders blocks count was met seen fault leads may told
+    (subst (λ (l : Option ThreadFault). IsAgainst (IsOf was blocks count Directed) met l fault) kept (subst (λ (x : Engine). IsAgainst (IsOf x blocks count Directed) met late fault) same against))

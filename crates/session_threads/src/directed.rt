@@ -7,7 +7,7 @@ ghost use Rattle.session_machine.specs.Engine.{is_quiet_in, opened};
 ghost use Rattle.session_core.specs.Engines.{IsOf};
 ghost use Rattle.session_seats.specs.Orders.{IsDriven};
 ghost use Rattle.session_seats.specs.Refusals.{MayMeet, MayStop};
-ghost use Rattle.session_threads.specs.Crews.{CameBy, RanByEach};
+ghost use Rattle.session_threads.specs.Crews.{RanBy, RanByEach};
 ghost use Rattle.session_threads.specs.Inner.Places.{AreFrom, IsRoomFor, RanFrom};
 
 use crate::closing::{Closed, end_of};
@@ -77,7 +77,8 @@ fn close_one<'a, 't, V: Versions, O: Orderings>(
     requires may { IfSome over.run.met (MayMeet (O.orders over.place) over.run.engine.state) }
     ensures other_place { ¬ (over.entry.place ≡ place) → IfErr result (λ fault. fault ≡ ThreadFault.OtherRun) }
     ensures met { over.entry.place ≡ place → IsOf over.entry.run.engine.state (blocks_of blocks.now) sessions Mode.Directed → IfSome over.entry.run.met (λ fault. result ≡ Err fault) }
-    ensures came { CameBy (blocks_of blocks.now) sessions (O.orders place) result }
+    ensures ran { IfOk result (RanBy (blocks_of blocks.now) sessions (O.orders place)) }
+    ensures stopped { IfErr result (MayStop (O.orders place) (blocks_of blocks.now) sessions) }
 {
     let Ended {
         place: own,

@@ -60,5 +60,5 @@ loop-over-preserved g c =
       driven = all_rest left rest over (λ over. over.run.late ≡ None → IsDriven (g.O.Orderings.orders over.place) over.run.engine.state.history) before.driven first;
       late = all_rest left rest over (λ over. IfSome over.run.late (λ fault. fault ≡ OtherRun)) before.late first;
       may = all_rest left rest over (λ over. IfSome over.run.met (MayMeet (g.O.Orderings.orders over.place) over.run.engine.state)) before.may first;
-      ran = ran_on (blocks_of c.args.blocks.now) c.args.sessions g.O.Orderings.orders so_far now one before.ran (subst (λ n. CameBy (blocks_of c.args.blocks.now) c.args.sessions (g.O.Orderings.orders n) one) at c.close_one-run.ensures.came) pushed;
+      ran = ran_on (blocks_of c.args.blocks.now) c.args.sessions g.O.Orderings.orders so_far now one before.ran (subst (λ n. CameBy (blocks_of c.args.blocks.now) c.args.sessions (g.O.Orderings.orders n) one) at (record { ran = c.close_one-run.ensures.ran; stopped = c.close_one-run.ensures.stopped })) pushed;
     }
