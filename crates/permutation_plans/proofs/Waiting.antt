@@ -37,17 +37,17 @@ abbrev gone : List Write
 gone = record { tx = record { 0 = 0 }; command = 1; table = record { 0 = 0 }; row = record { 0 = 0 }; values = Some (Int (pos 1) ∷ []) }
     ∷ record { tx = record { 0 = 1 }; command = 0; table = record { 0 = 0 }; row = record { 0 = 0 }; values = None } ∷ []
 
-abbrev state : ℕ → List Held → List Write → List Fate → List Table → Session → Session → Session → Machine
+abbrev pub state : ℕ → List Held → List Write → List Fate → List Table → Session → Session → Session → Machine
 state events held log fates tables a b c = record {
   db = record { content = record { log = log; fates = fates }; catalog = record { tables = tables; drops = [] }; held = held };
   sessions = a ∷ b ∷ c ∷ [];
   events = events;
 }
 
-abbrev at : ℕ → ℕ → Transaction → Session
+abbrev pub at : ℕ → ℕ → Transaction → Session
 at block next t = record { place = Some (record { block = block; next = next }); transaction = t; statement = None }
 
-abbrev between : Transaction → Session
+abbrev pub between : Transaction → Session
 between t = record { place = None; transaction = t; statement = None }
 
 abbrev making : Transaction

@@ -2,6 +2,7 @@ pub mod Launches
 pub mod Regular
 pub mod Worked
 pub mod Waited
+pub mod Deadlocked
 pub mod Whole
 pub mod FreeLaunches
 pub mod FreeRegular

@@ -5,6 +5,7 @@ ghost use Rattle.permutation_plans.specs.Regular.{HasOneHistory, EachHasOneHisto
 ghost use Rattle.permutation_plans.specs.Code.Fits.{DueIsNextOrder};
 ghost use Rattle.permutation_plans.specs.Worked.{WorkedHistory};
 ghost use Rattle.permutation_plans.specs.Waited.{WaitedHistory};
+ghost use Rattle.permutation_plans.specs.Deadlocked.{DeadlockedHistory};
 ghost use Rattle.permutation_plans.specs.FreeWaited.{WaitedFreeHistory};
 ghost use Rattle.permutation_plans.specs.Whole.{NextIsDue, WorkedGoesWell};
 
@@ -46,7 +47,12 @@ pub fn waited_history()
     ensures { WaitedHistory }
 {}
 
-/// So has the free run of that file, in which the same DELETE waits.
+/// So has a permutation in which two transactions have deleted a row each, and then each deletes the other's: one of these DELETEs waits, the other fails as a deadlock, and the first goes on.
+pub fn deadlocked_history()
+    ensures { DeadlockedHistory }
+{}
+
+/// So has the free run of the file with the wait, in which the same DELETE waits.
 pub fn waited_free_history()
     ensures { WaitedFreeHistory }
 {}

@@ -1,3 +1,4 @@
 pub mod Running
 pub mod FreeRunning
 pub mod Drafting
+pub mod Taken

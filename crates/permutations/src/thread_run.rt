@@ -12,7 +12,9 @@ ghost use Rattle.spec_files.specs.Inner.Resting.{IsAtRest};
 ghost use Rattle.spec_files.specs.Plans.{IsFollowing};
 ghost use Rattle.spec_files.specs.Runs.{is_of_one, is_of_run, has_broken, has_ended, IsOneTold};
 ghost use Rattle.spec_files.specs.Written.{IsWritten};
-ghost use Rattle.permutations.specs.Inner.Runs.{ArePlans, RanAs, RanAsEach};
+ghost use Rattle.history_laws.specs.UnderWay.{HasItsBlocks, HasItsSteps};
+ghost use Rattle.permutations.specs.Inner.Runs.{ArePlans, RanAsEach, RanSo};
+ghost use Rattle.permutations.specs.Stopped.{is_of_threads, IsStoppedSo};
 
 use crate::driver::Plan;
 use chain_store::ChainStore;
@@ -59,7 +61,8 @@ fn plans_of<'s>(
 }
 
 /// The closed runs of these permutations, which one crew runs side by side. Their launches are the permutations': what a plan
-/// doesn't give is never launched. Where memory is refused there are fewer, from the first on.
+/// doesn't give is never launched, and an engine refuses only what one gives. Where memory is refused there are fewer, from the
+/// first on.
 pub fn runs_of<'a, 't, G: Gate, R: Threads + Wait + Sync>(
     rt: &R,
     alloc: Global,
@@ -96,8 +99,8 @@ fn write_run<W: Sink, N: Sink>(
     write_permutation(alloc, spec, entries, engine.history(), out, notes)
 }
 
-/// A run of the permutation as it was closed. It is refused for the faults of its threads and for want of memory, and never as
-/// `ScheduleBroken`.
+/// A run of the permutation as it was closed. It is refused for the faults of its threads and for want of memory, never as
+/// `ScheduleBroken`, and for no refusal of the engine where its blocks and steps are there.
 fn closed_of<'a, 't>(
     spec: &Spec<'_>,
     blocks: &[Block<'_>],
@@ -105,10 +108,11 @@ fn closed_of<'a, 't>(
     run: Option<Result<Closed<'a, 't, ChainStore>, ThreadFault>>,
 ) -> Result<Closed<'a, 't, ChainStore>, RunFault>
     requires stands { Stands (spec_view spec.now) }
-    requires ran { IfSome run (λ run. IfOk run (RanAs (spec_view spec.now) (blocks_of blocks.now) (map entry_view entries.now))) }
+    requires ran { IfSome run (RanSo (spec_view spec.now) (blocks_of blocks.now) (map entry_view entries.now)) }
     ensures regular { IfOk result (λ c. IsRegular (spec_view spec.now) (blocks_of blocks.now) (map entry_view entries.now) c.state.history) }
     ensures unbroken { result ≢ Err RunFault.ScheduleBroken }
     ensures faults { IfErr result (λ e. is_of_run e ≡ true) }
+    ensures sure { HasItsBlocks (spec_view spec.now) (blocks_of blocks.now) → HasItsSteps (spec_view spec.now) (map entry_view entries.now) → IfErr result (λ e. is_of_threads e ≡ true) }
 {
     let _ = spec.sessions.len();
     let _ = blocks.len();
@@ -132,7 +136,7 @@ pub fn tell_permutation<W: Sink, N: Sink>(
     notes: &mut N,
 ) -> Result<(), RunFault>
     requires stands { Stands (spec_view spec.now) }
-    requires ran { IfSome run (λ run. IfOk run (RanAs (spec_view spec.now) (blocks_of blocks.now) (map entry_view entries.now))) }
+    requires ran { IfSome run (RanSo (spec_view spec.now) (blocks_of blocks.now) (map entry_view entries.now)) }
     ensures told { IsTrue (has_ended result) → IsOneTold (spec_view spec.now) (blocks_of blocks.now) (map entry_view entries.now)
         (W.put_so_far out.old) (W.put_so_far out.new) (N.put_so_far notes.old) (N.put_so_far notes.new) result }
     ensures begun { Begun (OneSays (spec_view spec.now) (blocks_of blocks.now) (map entry_view entries.now))
@@ -141,6 +145,7 @@ pub fn tell_permutation<W: Sink, N: Sink>(
     ensures unbroken { result ≢ Err RunFault.ScheduleBroken }
     ensures write { IsErrOf result RunFault.Write → (W.failed out.new || N.failed notes.new) ≡ true }
     ensures kinds { IfErr result (λ e. is_of_one e ≡ true) }
+    ensures sure { IsStoppedSo (spec_view spec.now) (blocks_of blocks.now) (map entry_view entries.now) result }
 {
     let closed = closed_of(spec, blocks, entries, run)?;
     let written = write_run(alloc, spec, entries, &closed, out, notes);

@@ -29,7 +29,8 @@ use Rattle.wait_laws.proofs.Rest.{rest_is_reached}
 use Rattle.history_laws.specs.Left.{events_left}
 use Rattle.history_laws.proofs.Fewer.{events_are_fewer}
 use Rattle.permutation_plans.specs.Launches.{launches, due_after, due_in}
-use Rattle.plain_runs.specs.Alone.{next_event, IsOfAlone, RefusesNext}
+use Rattle.session_seats.specs.Refusals.{next_event}
+use Rattle.plain_runs.specs.Alone.{IsOfAlone, RefusesNext}
 use Rattle.spec_files.specs.Faults.{thread_fault}
 use Rattle.plain_runs.specs.Inner.Next.{IsNextEvent, left_in}
 use Rattle.spec_files.specs.Plans.{Planning, order_after, IsFollowing}

@@ -1,9 +1,6 @@
 -- What may stand in the way of a run on one thread: memory, or what the machine refuses; and of printing such runs.
-use Rattle.std.specs.Prelude.{◌≡◌, ℕ, Bool, true, List, [], Option, Some, None, Ok, Err}
+use Rattle.std.specs.Prelude.{◌≡◌, ℕ, Bool, true, List, [], Some, Ok, Err}
 use Rattle.session_machine.specs.declared.event.Event.{Event}
-use Rattle.session_machine.specs.declared.event.Event.TheVariants.{Launch, Step, Leave}
-use Rattle.session_machine.specs.declared.event.Order.{Order}
-use Rattle.session_machine.specs.declared.event.Order.TheVariants.{Launch as LaunchOrder, Leave as LeaveOrder, Stop}
 use Rattle.session_machine.specs.declared.event.Mode.{Mode}
 use Rattle.session_machine.specs.declared.event.Mode.TheVariants.{Directed}
 use Rattle.session_machine.specs.declared.fault.Refusal.{Refusal}
@@ -13,17 +10,11 @@ use Rattle.session_machine.specs.Machine.{Machine, Blocks, opening, next, turn_i
 use Rattle.session_machine.specs.Engine.{fault_of}
 use Rattle.session_seats.specs.declared.fault.ThreadFault.TheVariants as thread_faults
 use Rattle.session_seats.specs.Orders.{Orders, OrderedAfter}
+use Rattle.session_seats.specs.Refusals.{next_event}
 use Rattle.spec_files.specs.Files.{File, FileIs}
 use Rattle.spec_files.specs.Runs.{is_early_end}
 use Rattle.spec_files.specs.declared.fault.RunFault.{RunFault}
 use Rattle.spec_files.specs.declared.fault.RunFault.TheVariants as faults
-
--- the event that is next: the Step of the session whose turn it is, or else what is ordered
-abbrev pub next_event : Option ℕ → Order → Option Event
-next_event (Some session) order = Some (Step session)
-next_event None (LaunchOrder session block) = Some (Launch session block)
-next_event None (LeaveOrder session) = Some (Leave session)
-next_event None Stop = None
 
 -- after a history in order, the machine refuses the event that is next
 pub record RefusesNext (orders : Orders) (blocks : Blocks) (count : ℕ) (mode : Mode) (fault : EngineFault) : Type 0 where

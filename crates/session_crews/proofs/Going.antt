@@ -52,7 +52,7 @@ answered_as : (e : Engine) (event : Event) (n : Result Next Refusal) (after : En
 answered_as e event (Err refusal) after f is = sym (ap (λ (x : EngineAnswered). x.engine) is)
 answered_as e event (Ok n) after f is = absurd (refused_not_answered f n.reply (sym (ap (λ (x : EngineAnswered). x.answer) is)))
 
-step_as : (e : Engine) (event : Event) (m : Option Machine) (after : Engine) (f : EngineFault) → engine_step e event m ≡ record { engine = after; answer = Err f } → after ≡ e
+pub step_as : (e : Engine) (event : Event) (m : Option Machine) (after : Engine) (f : EngineFault) → engine_step e event m ≡ record { engine = after; answer = Err f } → after ≡ e
 step_as e event None after f is = sym (ap (λ (x : EngineAnswered). x.engine) is)
 step_as e event (Some m) after f is = answered_as e event (next e.blocks e.mode m event) after f is
 

@@ -2,6 +2,7 @@ pub mod Ordering
 pub mod Sending
 pub mod FreeSending
 pub mod Going
+pub mod Next
 pub mod Blocks
 pub mod Scripts
 pub mod Whole

@@ -3,6 +3,7 @@ ghost use Rattle.std.specs.Prelude.{◌≡◌, ◌≤◌, ◌&&◌, [], true, Al
 ghost use Rattle.iso_lexer.specs.declared.limits.TheConstants.{MOST_SESSIONS};
 ghost use Rattle.session_machine.specs.Engine.{is_quiet_in};
 ghost use Rattle.session_seats.specs.Orders.{IsDriven};
+ghost use Rattle.session_seats.specs.Refusals.{MayMeet};
 ghost use Rattle.session_crews.specs.Inner.Room.{IsRoomFor};
 
 use crate::columns::{columns, last_seats, turn_round};
@@ -10,7 +11,7 @@ use crate::crew::{Desk, give_up, work};
 use crate::driven::Drives;
 use crate::joined::Joined;
 use crate::shared::{Hand, Opened, Shared};
-use session_machine::{Engine, EngineFault};
+use session_machine::Engine;
 use session_seats::{
     Board, Gate, NotStarted, Orderings, SeatAt, ThreadFault, bit_of, start_thread,
 };
@@ -162,14 +163,15 @@ fn ended_of<E: Engine, S: Drop, O: Orderings, D: Drives<E> + Drop>(
     ensures seats { shared.fault ≡ None → IfSome result.run.met (λ fault. fault ≡ ThreadFault.Memory) }
     ensures driven { result.run.late ≡ None → IsDriven (O.orders result.place) (E.engine result.run.engine).history }
     ensures quiet { result.run.late ≡ None → is_quiet_in (E.engine result.run.engine).machine ≡ true }
-    ensures told { IfSome result.run.late (λ fault. fault ≡ ThreadFault.Engine EngineFault.NotYourTurn) }
-    ensures late { result.run.late ≡ (if shared.stop && is_quiet_in shared.engine.machine then None else Some (ThreadFault.Engine EngineFault.NotYourTurn)) }
+    ensures told { IfSome result.run.late (λ fault. fault ≡ ThreadFault.OtherRun) }
+    ensures may { IfSome result.run.met (MayMeet (O.orders result.place) (E.engine result.run.engine)) }
+    ensures late { result.run.late ≡ (if shared.stop && is_quiet_in shared.engine.machine then None else Some ThreadFault.OtherRun) }
 {
     let (place, engine, stop, fault) = shared.into_parts();
     let late = if stop && engine.quiet() {
         None
     } else {
-        Some(ThreadFault::Engine(EngineFault::NotYourTurn))
+        Some(ThreadFault::OtherRun)
     };
     let (seats, refused) = match seats {
         Ok(seats) => (seats, None),
@@ -235,7 +237,8 @@ fn ended_of_each<E: Engine, S: Drop, O: Orderings, D: Drives<E> + Drop>(
     ensures count { length result.items ≡ length runs.items }
     ensures quiet { All (λ over. over.run.late ≡ None → is_quiet_in (E.engine over.run.engine).machine ≡ true) result.items }
     ensures driven { All (λ over. over.run.late ≡ None → IsDriven (O.orders over.place) (E.engine over.run.engine).history) result.items }
-    ensures late { All (λ over. IfSome over.run.late (λ fault. fault ≡ ThreadFault.Engine EngineFault.NotYourTurn)) result.items }
+    ensures late { All (λ over. IfSome over.run.late (λ fault. fault ≡ ThreadFault.OtherRun)) result.items }
+    ensures may { All (λ over. IfSome over.run.met (MayMeet (O.orders over.place) (E.engine over.run.engine))) result.items }
 {
     for run in runs {
         let seats = last_seats(alloc, columns);
@@ -299,7 +302,8 @@ fn run_in<
     ensures count { length result.items ≡ length opened.items }
     ensures quiet { All (λ over. over.run.late ≡ None → is_quiet_in (E.engine over.run.engine).machine ≡ true) result.items }
     ensures driven { All (λ over. over.run.late ≡ None → IsDriven (O.orders over.place) (E.engine over.run.engine).history) result.items }
-    ensures late { All (λ over. IfSome over.run.late (λ fault. fault ≡ ThreadFault.Engine EngineFault.NotYourTurn)) result.items }
+    ensures late { All (λ over. IfSome over.run.late (λ fault. fault ≡ ThreadFault.OtherRun)) result.items }
+    ensures may { All (λ over. IfSome over.run.met (MayMeet (O.orders over.place) (E.engine over.run.engine))) result.items }
 {
     let Room {
         board,
@@ -340,7 +344,8 @@ pub fn run_crew<
     ensures count { IfOk result (λ ended. length ended.items ≡ length opened.items) }
     ensures quiet { IfOk result (λ ended. All (λ over. over.run.late ≡ None → is_quiet_in (E.engine over.run.engine).machine ≡ true) ended.items) }
     ensures driven { IfOk result (λ ended. All (λ over. over.run.late ≡ None → IsDriven (O.orders over.place) (E.engine over.run.engine).history) ended.items) }
-    ensures late { IfOk result (λ ended. All (λ over. IfSome over.run.late (λ fault. fault ≡ ThreadFault.Engine EngineFault.NotYourTurn)) ended.items) }
+    ensures late { IfOk result (λ ended. All (λ over. IfSome over.run.late (λ fault. fault ≡ ThreadFault.OtherRun)) ended.items) }
+    ensures may { IfOk result (λ ended. All (λ over. IfSome over.run.met (MayMeet (O.orders over.place) (E.engine over.run.engine))) ended.items) }
 {
     let room = room_for::<E, S, O, D>(alloc, sessions, opened.len())?;
     Ok(run_in(rt, alloc, room, opened, gate))

@@ -2,7 +2,8 @@
 ghost use Rattle.std.specs.Prelude.{◌≡◌, ◌||◌, ◌⊎◌, ◌<◌, ◌≤◌, true, false, [], None, Some, IfSome, is_some};
 ghost use Rattle.std.specs.Option.{option_or};
 ghost use Rattle.session_machine.specs.Machine.{session_of};
-ghost use Rattle.session_seats.specs.Orders.{IsDriven, IsOrder};
+ghost use Rattle.session_seats.specs.Orders.{IsDriven};
+ghost use Rattle.session_seats.specs.Refusals.{IsNextIn, MayMeet};
 
 use crate::driven::Drives;
 use session_machine::{Engine, EngineFault, Event, Order, Turn};
@@ -29,7 +30,8 @@ pub enum Hand {
 
 /// The run's place, the engine, the driver, the order that was given and is not yet done, whether the driver said Stop, and a
 /// fault that was met. Each Launch and Leave of the history is what the driver orders after the history before it, nothing
-/// follows a Stop, and what the driver keeps fits the history.
+/// follows a Stop, and what the driver keeps fits the history. An order that is not yet done is what is next, and a fault was
+/// met where what is next can't be done, or comes from outside.
 #[derive(Drop)]
 pub struct Shared<E: Engine, O: Orderings, D: Drives<E>> {
     place: usize,
@@ -43,7 +45,7 @@ pub struct Shared<E: Engine, O: Orderings, D: Drives<E>> {
 }
 
 impl<E: Engine, O: Orderings, D: Drives<E>> Model for Shared<E, O, D> {
-    ghost use Rattle.session_crews.specs.Inner.Shared.{SharedOf, RunsInOrder, IsLed};
+    ghost use Rattle.session_crews.specs.Inner.Shared.{SharedOf, RunsInOrder, IsLed, IsServed};
     ghost use Rattle.session_machine.specs.Inner.TreeCodes.{tree_code};
     ghost use Rattle.std.specs.Coded.{codes};
 
@@ -54,7 +56,8 @@ impl<E: Engine, O: Orderings, D: Drives<E>> Model for Shared<E, O, D> {
     ghost view = { λ s. record { place = s.place; engine = E.engine s.engine; order = s.order; stop = s.stop; fault = s.fault } };
 
     ghost invariant = { λ s. RunsInOrder (O.orders s.place) (E.engine s.engine).history s.order s.stop
-        × IsLed (O.orders s.place) (D.order_after s.driver) (D.follows s.driver) (E.engine s.engine).history s.fault };
+        × IsLed (O.orders s.place) (D.order_after s.driver) (D.follows s.driver) (E.engine s.engine).history s.fault
+        × IsServed (O.orders s.place) (E.engine s.engine) s.order s.fault };
 }
 
 impl<E: Engine, O: Orderings, D: Drives<E>> Shared<E, O, D> {
@@ -103,8 +106,9 @@ impl<E: Engine, O: Orderings, D: Drives<E>> Shared<E, O, D> {
         }
     }
 
-    /// Keeps a fault, where none was met before.
+    /// Keeps a fault that may be met, where none was met before.
     pub fn note(&mut self, fault: ThreadFault)
+        requires { MayMeet (O.orders self.old.place) self.old.engine fault }
         ensures { self.new ≡ record { place = self.old.place; engine = self.old.engine; order = self.old.order; stop = self.old.stop; fault = option_or self.old.fault (Some fault) } }
     {
         if self.fault.is_none() {
@@ -112,11 +116,13 @@ impl<E: Engine, O: Orderings, D: Drives<E>> Shared<E, O, D> {
         }
     }
 
-    /// Takes an order. One of a session that isn't there could not be done by anyone.
+    /// Takes an order, which is what is next. One of a session that isn't there could not be done by anyone.
     fn give(&mut self, session: u32, event: Event)
-        requires { IsOrder event (O.orders self.old.place self.old.engine.history) }
+        requires own { session_of event ≡ session }
+        requires next { IsNextIn (O.orders self.old.place) self.old.engine event }
         ensures there { session ≤ self.old.engine.count → self.new.fault ≡ self.old.fault }
         ensures not_there { self.old.engine.count < session → self.new.fault ≡ option_or self.old.fault (Some (ThreadFault.Engine EngineFault.NoSession)) }
+        ensures fault { IfSome self.new.fault (λ fault. (self.old.fault ≡ Some fault) ⊎ (fault ≡ ThreadFault.Engine EngineFault.NoSession)) }
     {
         if session > self.engine.sessions() {
             self.note(ThreadFault::Engine(EngineFault::NoSession));
@@ -143,35 +149,31 @@ impl<E: Engine, O: Orderings, D: Drives<E>> Shared<E, O, D> {
         }
     }
 
-    /// Whether the event is a Step, or the order that was given.
-    fn is_ordered(&self, event: Event) -> bool
-        ensures { result ≡ true → IsOrder event (O.orders self.now.place self.now.engine.history) }
+    /// Whether the event is the next one: a Step of the session whose turn it is, or the order that was given.
+    fn is_next(&self, event: Event) -> bool
+        requires { self.now.fault ≡ None }
+        ensures { result ≡ true → IsNextIn (O.orders self.now.place) self.now.engine event }
     {
         match event {
-            Event::Step { .. } => true,
+            Event::Step { session } => self.engine.turn() == Turn::Session(session),
             _ => self.order == Some(event),
         }
     }
 
-    /// Does the event, unless the run is over. Says whether it was done.
+    /// Does the event, where it is the next one of a run that goes on. Says whether it was done.
     pub fn perform<S: SeatAt<E>>(&mut self, seat: &mut S, event: Event) -> bool
         requires { session_of event ≡ (S.seat seat.old).session }
         ensures session { (S.seat seat.new).session ≡ (S.seat seat.old).session }
         ensures first { IfSome self.old.fault (λ fault. self.new.fault ≡ Some fault) }
-        ensures over { result ≡ false → (self.new.stop || is_some self.new.fault) ≡ true }
+        ensures same { result ≡ false → self.new.fault ≡ None → self.new ≡ self.old }
     {
-        if self.over() {
+        if self.over() || !self.is_next(event) {
             return false;
         }
-        if !self.is_ordered(event) {
-            self.note(ThreadFault::Engine(EngineFault::NotYourTurn));
-            return false;
-        }
-        match seat.act(&mut self.engine, event) {
-            Ok(()) => {
-                self.order = None;
-                true
-            }
+        let acted = seat.act(&mut self.engine, event);
+        self.order = None;
+        match acted {
+            Ok(()) => true,
             Err(fault) => {
                 self.note(fault);
                 false
@@ -195,10 +197,11 @@ impl<E: Engine, O: Orderings, D: Drives<E>> Shared<E, O, D> {
 }
 
 impl<E: Engine, O: Orderings, D: Drives<E> + Drop> Shared<E, O, D> {
-    /// The run's place, the engine, whether the driver said Stop, and the fault that was met.
+    /// The run's place, the engine, whether the driver said Stop, and the fault that was met, which may be met.
     pub fn into_parts(self) -> (usize, E, bool, Option<ThreadFault>)
         ensures { (result.0 ≡ self.place) × (E.engine result.1 ≡ self.engine) × (result.2 ≡ self.stop) × (result.3 ≡ self.fault)
-            × (result.2 ≡ true → IsDriven (O.orders result.0) (E.engine result.1).history) }
+            × (result.2 ≡ true → IsDriven (O.orders result.0) (E.engine result.1).history)
+            × IfSome result.3 (MayMeet (O.orders result.0) (E.engine result.1)) }
     {
         (self.place, self.engine, self.stop, self.fault)
     }

@@ -3,5 +3,6 @@ pub mod Acts
 pub mod Free
 pub mod FreeRuns
 pub mod Orders
+pub mod Refusals
 pub mod FaultText
 pub mod Inner

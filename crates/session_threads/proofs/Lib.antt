@@ -1,2 +1,3 @@
 pub mod Sending
 pub mod Places
+pub mod Stopping

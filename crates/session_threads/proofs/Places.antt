@@ -8,7 +8,7 @@ use Rattle.session_machine.specs.Machine.{Blocks}
 use Rattle.session_seats.specs.declared.fault.ThreadFault.{ThreadFault}
 use Rattle.session_seats.specs.Orders.{Orders}
 use Rattle.session_threads.specs.Closing.{ClosedOf}
-use Rattle.session_threads.specs.Crews.{RanBy, RanByEach}
+use Rattle.session_threads.specs.Crews.{CameBy, RanByEach}
 use Rattle.session_threads.specs.Inner.Places.{orders_at, AreFrom, RanFrom}
 
 from_on : (at : ℕ → Orders) (place : ℕ) (all : List Orders) → ((k : ℕ) → at (place + k) ≡ orders_at all k) → AreFrom at place all
@@ -23,10 +23,10 @@ are_from all = from_on (orders_at all) 0 all (λ k. let n : 0 + k ≡ k = omega 
 
 -- one more run
 pub ran_more : (blocks : Blocks) (count : ℕ) (at : ℕ → Orders) (place : ℕ) (runs : List (Result ClosedOf ThreadFault)) (run : Result ClosedOf ThreadFault)
-    → RanFrom blocks count at place runs → IfOk run (RanBy blocks count (at (place + length runs))) → RanFrom blocks count at place (runs ++ run ∷ [])
-ran_more blocks count at place [] run ran is = (let n : place + 0 ≡ place = omega arith in subst (λ m. IfOk run (RanBy blocks count (at m))) n is, tt)
+    → RanFrom blocks count at place runs → CameBy blocks count (at (place + length runs)) run → RanFrom blocks count at place (runs ++ run ∷ [])
+ran_more blocks count at place [] run ran is = (let n : place + 0 ≡ place = omega arith in subst (λ m. CameBy blocks count (at m) run) n is, tt)
 ran_more blocks count at place (r ∷ rs) run ran is =
-    (ran.0, ran_more blocks count at (place + 1) rs run ran.1 (let n : place + suc (length rs) ≡ (place + 1) + length rs = omega arith in subst (λ m. IfOk run (RanBy blocks count (at m))) n is))
+    (ran.0, ran_more blocks count at (place + 1) rs run ran.1 (let n : place + suc (length rs) ≡ (place + 1) + length rs = omega arith in subst (λ m. CameBy blocks count (at m) run) n is))
 
 -- what ran by the orders of its place ran by those at its place in the list
 pub ran_each : (blocks : Blocks) (count : ℕ) (at : ℕ → Orders) (place : ℕ) (all : List Orders) (runs : List (Result ClosedOf ThreadFault))
@@ -34,7 +34,7 @@ pub ran_each : (blocks : Blocks) (count : ℕ) (at : ℕ → Orders) (place : �
 ran_each blocks count at place all [] few are ran = tt
 ran_each blocks count at place [] (r ∷ rs) few are ran = absurd (omega (arith, few))
 ran_each blocks count at place (orders ∷ behind) (r ∷ rs) few are ran =
-    (subst (λ (o : Orders). IfOk r (RanBy blocks count o)) (sym are.0) ran.0, ran_each blocks count at (place + 1) behind rs (omega (arith, few)) are.1 ran.1)
+    (subst (λ (o : Orders). CameBy blocks count o r) (sym are.0) ran.0, ran_each blocks count at (place + 1) behind rs (omega (arith, few)) are.1 ran.1)
 
 -- the orders of the first that is left are those of the place of what is made, and the others follow
 pub from_first : {X Y : Type 0} (at : ℕ → Orders) (of : Y → Orders) (made : List X) (left rest : List Y) (y : Y)
@@ -53,10 +53,10 @@ from_rest at of made now left rest x y are first pushed =
     subst (λ n. AreFrom at n (map of rest)) (sym longer) (subst (λ ys. AreFrom at (length made) (map of ys)) first are).1
 
 pub ran_on : (blocks : Blocks) (count : ℕ) (at : ℕ → Orders) (runs now : List (Result ClosedOf ThreadFault)) (run : Result ClosedOf ThreadFault)
-    → RanFrom blocks count at 0 runs → IfOk run (RanBy blocks count (at (length runs))) → now ≡ runs ++ run ∷ [] → RanFrom blocks count at 0 now
+    → RanFrom blocks count at 0 runs → CameBy blocks count (at (length runs)) run → now ≡ runs ++ run ∷ [] → RanFrom blocks count at 0 now
 ran_on blocks count at runs now run ran is pushed =
     let n : length runs ≡ 0 + length runs = omega arith in
-    subst (RanFrom blocks count at 0) (sym pushed) (ran_more blocks count at 0 runs run ran (subst (λ m. IfOk run (RanBy blocks count (at m))) n is))
+    subst (RanFrom blocks count at 0) (sym pushed) (ran_more blocks count at 0 runs run ran (subst (λ m. CameBy blocks count (at m) run) n is))
 
 pub all_none : {X : Type 0} (xs : List X) (P : X → Type 0) → xs ≡ [] → All P xs
 all_none {X = X} xs P none = subst (All P) (sym none) (λ k or lt. absurd (omega (arith, lt)))

@@ -1,11 +1,12 @@
 //! Runs with a thread for each session, in which a driver says what is given to whom.
-ghost use Rattle.std.specs.Prelude.{◌≡◌, ◌≤◌, ◌∷◌, All, List, [], None, Ok, Err, true, IfOk, IfSome, length, map};
+ghost use Rattle.std.specs.Prelude.{◌≡◌, ◌≤◌, ◌∷◌, All, List, [], None, Ok, Err, true, IfOk, IfErr, IfSome, length, map};
 ghost use Rattle.iso_lexer.specs.declared.limits.TheConstants.{MOST_SESSIONS};
 ghost use Rattle.row_versions.specs.Log.{empty_content};
 ghost use Rattle.sql_blocks.specs.Blocks.{blocks_of};
 ghost use Rattle.session_machine.specs.Engine.{is_quiet_in, opened};
 ghost use Rattle.session_core.specs.Engines.{IsOf};
 ghost use Rattle.session_seats.specs.Orders.{IsDriven};
+ghost use Rattle.session_seats.specs.Refusals.{MayMeet, MayStop};
 ghost use Rattle.session_threads.specs.Crews.{RanBy, RanByEach};
 ghost use Rattle.session_threads.specs.Inner.Places.{AreFrom, IsRoomFor, RanFrom};
 
@@ -72,15 +73,20 @@ fn close_one<'a, 't, V: Versions, O: Orderings>(
 ) -> Result<Closed<'a, 't, V>, ThreadFault>
     requires quiet { over.run.late ≡ None → is_quiet_in over.run.engine.state.machine ≡ true }
     requires driven { over.run.late ≡ None → IsDriven (O.orders over.place) over.run.engine.state.history }
-    ensures met { IfSome over.entry.run.met (λ fault. result ≡ Err fault) }
+    requires late { IfSome over.run.late (λ fault. fault ≡ ThreadFault.OtherRun) }
+    requires may { IfSome over.run.met (MayMeet (O.orders over.place) over.run.engine.state) }
+    ensures other_place { ¬ (over.entry.place ≡ place) → IfErr result (λ fault. fault ≡ ThreadFault.OtherRun) }
+    ensures met { over.entry.place ≡ place → IsOf over.entry.run.engine.state (blocks_of blocks.now) sessions Mode.Directed → IfSome over.entry.run.met (λ fault. result ≡ Err fault) }
     ensures ran { IfOk result (RanBy (blocks_of blocks.now) sessions (O.orders place)) }
+    ensures stopped { IfErr result (MayStop (O.orders place) (blocks_of blocks.now) sessions) }
 {
     let Ended {
         place: own,
         mut run,
     } = over;
+    run.engine.state.history();
     if own != place {
-        run.late = Some(ThreadFault::OtherRun);
+        run.met = Some(ThreadFault::OtherRun);
     }
     end_of(run, blocks, sessions, Mode::Directed)
 }
@@ -94,6 +100,8 @@ fn close_each<'a, 't, V: Versions, O: Orderings>(
 ) -> Vec<Result<Closed<'a, 't, V>, ThreadFault>>
     requires quiet { All (λ over. over.run.late ≡ None → is_quiet_in over.run.engine.state.machine ≡ true) ended.items }
     requires driven { All (λ over. over.run.late ≡ None → IsDriven (O.orders over.place) over.run.engine.state.history) ended.items }
+    requires late { All (λ over. IfSome over.run.late (λ fault. fault ≡ ThreadFault.OtherRun)) ended.items }
+    requires may { All (λ over. IfSome over.run.met (MayMeet (O.orders over.place) over.run.engine.state)) ended.items }
     requires room { IsRoomFor (length ended.items) closed }
     ensures count { length result.items ≡ length ended.entry.items }
     ensures ran { RanFrom (blocks_of blocks.now) sessions O.orders 0 result.items }
@@ -129,6 +137,8 @@ fn run_opened<
     ensures count { IfOk result (λ ended. length ended.items ≡ length runs.items) }
     ensures quiet { IfOk result (λ ended. All (λ over. over.run.late ≡ None → is_quiet_in over.run.engine.state.machine ≡ true) ended.items) }
     ensures driven { IfOk result (λ ended. All (λ over. over.run.late ≡ None → IsDriven (O.orders over.place) over.run.engine.state.history) ended.items) }
+    ensures late { IfOk result (λ ended. All (λ over. IfSome over.run.late (λ fault. fault ≡ ThreadFault.OtherRun)) ended.items) }
+    ensures may { IfOk result (λ ended. All (λ over. IfSome over.run.met (MayMeet (O.orders over.place) over.run.engine.state)) ended.items) }
 {
     let opened = open_each::<V, O, D>(alloc, blocks, sessions, runs)?;
     run_crew::<_, _, O, _, G, R>(rt, alloc, sessions, opened, gate)
@@ -166,7 +176,7 @@ fn run_placed<
 /// Runs what each of these drivers orders, all side by side, each event in its session's own thread, which serves all runs;
 /// the calling thread is the control session's. The thread whose event left an engine quiet asks that run's driver. The seats
 /// of a run hold the events that their threads have done in it. Of more runs than 64 the others come to no end. What ends a
-/// run early is answered for that run alone. Where memory is refused for what they have in common, or for one of their engines,
+/// run early is answered for that run alone: the engine's refusal only where it is of what the driver orders. Where memory is refused for what they have in common, or for one of their engines,
 /// none has begun.
 pub fn run_each<
     'a,
@@ -216,6 +226,7 @@ pub fn run_directed<
     ensures of { IfOk result (λ c. IsOf c.state (blocks_of blocks.now) sessions Mode.Directed) }
     ensures quiet { IfOk result (λ c. is_quiet_in c.state.machine ≡ true) }
     ensures driven { IfOk result (λ c. IsDriven (D.order_after driver) c.state.history) }
+    ensures stopped { IfErr result (MayStop (D.order_after driver) (blocks_of blocks.now) sessions) }
 {
     let mut runs = Vec::new(alloc);
     if runs.push(Run { store, driver }).is_err() {

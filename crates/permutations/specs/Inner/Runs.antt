@@ -1,13 +1,14 @@
 -- Runs of permutations by their plans.
-use Rattle.std.specs.Prelude.{◌≡◌, List, [], ◌∷◌, length, Result, IfOk}
+use Rattle.std.specs.Prelude.{◌≡◌, List, [], ◌∷◌, length, Result, IfOk, IfErr}
 use Rattle.std.specs.Global.{Vec}
 use Rattle.session_machine.specs.Machine.{Blocks}
 use Rattle.session_seats.specs.declared.fault.ThreadFault.{ThreadFault}
+use Rattle.session_seats.specs.Refusals.{MayStop}
 use Rattle.session_threads.specs.Closing.{ClosedOf}
 use Rattle.session_threads.specs.Crews.{RanBy}
 use Rattle.spec_parser.specs.declared.tree.Entry.{Entry}
 use Rattle.spec_parser.specs.Trees.{EntryTree, SpecTree, perm_view}
-use Rattle.permutation_plans.specs.Launches.{launches}
+use Rattle.permutation_plans.specs.Launches.{launches, due_in}
 use Rattle.spec_files.specs.Plans.{Planning, order_after}
 
 -- it is a plan of the permutation with these entries
@@ -27,8 +28,13 @@ pub record RanAs (spec : SpecTree) (blocks : Blocks) (entries : List EntryTree) 
   pub planned : IsPlanOf spec entries plan
   pub ran : RanBy blocks (length spec.sessions) (order_after plan) closed
 
--- each of these runs that was closed is one of the permutation at its place; there may be fewer runs
+-- a run of the permutation with these entries: a plan of it has driven it to its end, or it was stopped by what may stop it
+pub record RanSo (spec : SpecTree) (blocks : Blocks) (entries : List EntryTree) (run : Result ClosedOf ThreadFault) : Type 0 where
+  pub ran : IfOk run (RanAs spec blocks entries)
+  pub stopped : IfErr run (MayStop (due_in spec entries) blocks (length spec.sessions))
+
+-- each of these runs is one of the permutation at its place; there may be fewer runs
 abbrev pub RanAsEach : SpecTree → Blocks → List (Vec Entry) → List (Result ClosedOf ThreadFault) → Type 0
 RanAsEach spec blocks taken [] = Unit {0}
 RanAsEach spec blocks [] (run ∷ runs) = ⊥
-RanAsEach spec blocks (entries ∷ taken) (run ∷ runs) = IfOk run (RanAs spec blocks (perm_view entries)) × RanAsEach spec blocks taken runs
+RanAsEach spec blocks (entries ∷ taken) (run ∷ runs) = RanSo spec blocks (perm_view entries) run × RanAsEach spec blocks taken runs

@@ -7,7 +7,7 @@ use Rattle.session_machine.specs.Machine.{Machine, opening, turn_in, Run}
 use Rattle.session_machine.specs.Engine.{Engine}
 use Rattle.report_lines.specs.Due.{Launches}
 use Rattle.history_laws.specs.Left.{events_left}
-use Rattle.plain_runs.specs.Alone.{next_event}
+use Rattle.session_seats.specs.Refusals.{next_event}
 
 -- the event is next in the engine, by this order; there may be none
 pub record IsNextEvent (e : Engine) (order : Order) (event : Option Event) : Type 0 where

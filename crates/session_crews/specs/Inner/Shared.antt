@@ -1,12 +1,14 @@
 -- What stands behind the lock of a run.
-use Rattle.std.specs.Prelude.{◌≡◌, ℕ, List, [], Option, Some, None, Bool, true}
+use Rattle.std.specs.Prelude.{◌≡◌, ℕ, List, [], Option, Some, None, Bool, true, false, IfSome}
 use Rattle.session_machine.specs.declared.event.Event.{Event}
 use Rattle.session_machine.specs.declared.event.Order.{Order}
 use Rattle.session_machine.specs.declared.event.Order.TheVariants.{Stop}
 use Rattle.session_machine.specs.declared.reply.HistItem.{HistItem}
 use Rattle.session_machine.specs.Engine.{Engine}
 use Rattle.session_seats.specs.declared.fault.ThreadFault.{ThreadFault}
+use Rattle.session_seats.specs.declared.fault.ThreadFault.TheVariants.{ThreadRefused, Gate, Memory}
 use Rattle.session_seats.specs.Orders.{Orders, IsOrder, OrderedAfter}
+use Rattle.session_seats.specs.Refusals.{IsNextIn, MayMeet}
 
 -- what stands behind the lock of a run: its place, the engine, the order that was given and is not yet done, whether the driver said Stop, and a fault that was met
 pub record SharedOf : Type 0 where
@@ -31,3 +33,15 @@ pub record RunsInOrder (orders : Orders) (items : List HistItem) (order : Option
 pub record IsLed (orders driven : Orders) (follows : List HistItem → Type 0) (items : List HistItem) (fault : Option ThreadFault) : Type 0 where
   pub own : driven ≡ orders
   pub keeps : fault ≡ None → follows items
+
+-- an order that is not yet done is what is next, unless a fault was met; and that is one that may be met
+pub record IsServed (orders : Orders) (e : Engine) (order : Option Event) (fault : Option ThreadFault) : Type 0 where
+  pub next : fault ≡ None → IfSome order (IsNextIn orders e)
+  pub met : IfSome fault (MayMeet orders e)
+
+-- it isn't the engine that the fault comes from
+abbrev pub is_outside : ThreadFault → Bool
+is_outside ThreadRefused = true
+is_outside Gate = true
+is_outside Memory = true
+is_outside _ = false

@@ -1,10 +1,12 @@
 use Rattle.std.proofs.Common.{◌≡◌, ◌++◌, ◌∷◌, [], None, true, length, arith, rules, subst, sym}
-use Rattle.std.specs.Prelude.{IfOk}
+use Rattle.std.specs.Prelude.{IfSome}
 use Rattle.session_machine.specs.Engine.{is_quiet_in}
+use Rattle.session_seats.specs.declared.fault.ThreadFault.TheVariants.{OtherRun}
 use Rattle.session_seats.specs.Orders.{IsDriven}
+use Rattle.session_seats.specs.Refusals.{MayMeet}
 use Rattle.sql_blocks.specs.Blocks.{blocks_of}
 use Rattle.session_crews.proofs.Lists.{all_first, all_rest, count_on}
-use Rattle.session_threads.specs.Crews.{RanBy}
+use Rattle.session_threads.specs.Crews.{CameBy}
 use Rattle.session_threads.specs.Inner.Places.{RanFrom}
 use Rattle.session_threads.proofs.Places.{all_same, ran_on}
 use Rattle.session_threads.proofs.directed.close_each.Goals as goal
@@ -18,6 +20,8 @@ loop-over-init g c =
       room = search (rules, arith);
       quiet = all_same c.args.ended.items left (λ over. over.run.late ≡ None → is_quiet_in over.run.engine.state.machine ≡ true) same c.requires.quiet;
       driven = all_same c.args.ended.items left (λ over. over.run.late ≡ None → IsDriven (g.O.Orderings.orders over.place) over.run.engine.state.history) same c.requires.driven;
+      late = all_same c.args.ended.items left (λ over. IfSome over.run.late (λ fault. fault ≡ OtherRun)) same c.requires.late;
+      may = all_same c.args.ended.items left (λ over. IfSome over.run.met (MayMeet (g.O.Orderings.orders over.place) over.run.engine.state)) same c.requires.may;
       ran = subst (λ runs. RanFrom (blocks_of c.args.blocks.now) c.args.sessions g.O.Orderings.orders 0 runs) (sym c.requires.room.empty) tt;
     }
 
@@ -28,6 +32,14 @@ close_one-run-requires-clause-quiet g c =
 pub close_one-run-requires-clause-driven : goal.close_one-run-requires-clause-driven
 close_one-run-requires-clause-driven g c =
     all_first c.loop-over.over-iterator.rest.items c.next.new.self.rest.items c.in-Some.over (λ over. over.run.late ≡ None → IsDriven (g.O.Orderings.orders over.place) over.run.engine.state.history) c.loop-over.invariant.driven c.in-Some.ensures.steps.0
+
+pub close_one-run-requires-clause-late : goal.close_one-run-requires-clause-late
+close_one-run-requires-clause-late g c =
+    all_first c.loop-over.over-iterator.rest.items c.next.new.self.rest.items c.in-Some.over (λ over. IfSome over.run.late (λ fault. fault ≡ OtherRun)) c.loop-over.invariant.late c.in-Some.ensures.steps.0
+
+pub close_one-run-requires-clause-may : goal.close_one-run-requires-clause-may
+close_one-run-requires-clause-may g c =
+    all_first c.loop-over.over-iterator.rest.items c.next.new.self.rest.items c.in-Some.over (λ over. IfSome over.run.met (MayMeet (g.O.Orderings.orders over.place) over.run.engine.state)) c.loop-over.invariant.may c.in-Some.ensures.steps.0
 
 pub loop-over-preserved : goal.loop-over-preserved
 loop-over-preserved g c =
@@ -46,5 +58,7 @@ loop-over-preserved g c =
       room = search (rules, arith);
       quiet = all_rest left rest over (λ over. over.run.late ≡ None → is_quiet_in over.run.engine.state.machine ≡ true) before.quiet first;
       driven = all_rest left rest over (λ over. over.run.late ≡ None → IsDriven (g.O.Orderings.orders over.place) over.run.engine.state.history) before.driven first;
-      ran = ran_on (blocks_of c.args.blocks.now) c.args.sessions g.O.Orderings.orders so_far now one before.ran (subst (λ n. IfOk one (RanBy (blocks_of c.args.blocks.now) c.args.sessions (g.O.Orderings.orders n))) at c.close_one-run.ensures.ran) pushed;
+      late = all_rest left rest over (λ over. IfSome over.run.late (λ fault. fault ≡ OtherRun)) before.late first;
+      may = all_rest left rest over (λ over. IfSome over.run.met (MayMeet (g.O.Orderings.orders over.place) over.run.engine.state)) before.may first;
+      ran = ran_on (blocks_of c.args.blocks.now) c.args.sessions g.O.Orderings.orders so_far now one before.ran (subst (λ n. CameBy (blocks_of c.args.blocks.now) c.args.sessions (g.O.Orderings.orders n) one) at (record { ran = c.close_one-run.ensures.ran; stopped = c.close_one-run.ensures.stopped })) pushed;
     }
