@@ -1,3 +1,5 @@
 pub mod Endings
 pub mod Tables
 pub mod Counting
+pub mod Transactions
+pub mod Verdicts
