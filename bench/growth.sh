@@ -48,6 +48,7 @@ hot-row;100 1000 10000;;N statements, each an UPDATE of the same row
 hot-row-keyed;100 1000 10000;;the same, with a key
 waiters;8 16 32;2.1;COMMIT for which N sessions wait, behind which the first goes on
 waiters-beside;100 1000 10000;1.05;the same, 64 sessions in a table of N
+waiters-after;100 1000 10000;1.05;the same, 64 sessions after N statements
 resumed;100 1000 10000;1.05;COMMIT behind which an UPDATE goes on at the last of N rows
 resumed-keyed;100 1000 10000;1.05;the same, with a key
 release;1000 10000 64000;2.4;COMMIT that gives N locks back

@@ -69,6 +69,12 @@ fn waiters_beside(scene: &mut Scene) -> Result<()> {
     scene.wait(MOST_SESSIONS as u32, LAST)
 }
 
+/// All sessions that there may be wait for one of ten rows, after many statements on them.
+fn waiters_after(scene: &mut Scene) -> Result<()> {
+    scene.update(10)?;
+    scene.wait(MOST_SESSIONS as u32, OF_FEW)
+}
+
 fn filled(scene: &mut Scene) -> Result<()> {
     scene.begin();
     scene.fill()
@@ -106,6 +112,7 @@ fn write(scene: &mut Scene, what: &str) -> Result<()> {
         "resumed" => resumed(scene),
         "waiters" => scene.wait(scene.size.min(MOST_SESSIONS as u32), OF_FEW),
         "waiters-beside" => waiters_beside(scene),
+        "waiters-after" => waiters_after(scene),
         _ => over_all(scene, what),
     }
 }
