@@ -44,7 +44,11 @@ fn run<R: Runtime + AllocGlobal + Threads + Wait + Sync>(
             &mut err,
         )
     };
-    text.flush()?;
+    let flushed = text.flush();
+    // (a run that has failed has told its fault already)
+    if status != FAILED {
+        flushed?;
+    }
     Ok(status)
 }
 
