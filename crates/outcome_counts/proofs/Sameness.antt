@@ -13,13 +13,13 @@ use Rattle.outcome_counts.proofs.Counting.{answer_itself}
 
 -- ---- by way of a third
 
-pairs_by : {A : Type 0} (R : A → A → Type 0) → ((a b c : A) → R a b → R b c → R a c) → (xs ys zs : List A) → Pairwise R xs ys → Pairwise R ys zs → Pairwise R xs zs
+pub pairs_by : {A : Type 0} (R : A → A → Type 0) → ((a b c : A) → R a b → R b c → R a c) → (xs ys zs : List A) → Pairwise R xs ys → Pairwise R ys zs → Pairwise R xs zs
 pairs_by R by xs ys zs p q = record {
   long = p.long ∙ q.long;
   each = λ k d h. by (get_or xs k d) (get_or ys k d) (get_or zs k d) (p.each k d h) (q.each k d (subst (λ (n : ℕ). k < n) p.long h));
 }
 
-answer_by : (a b c : Outcome) → SameAnswer a b → SameAnswer b c → SameAnswer a c
+pub answer_by : (a b c : Outcome) → SameAnswer a b → SameAnswer b c → SameAnswer a c
 answer_by Launched b c h k = subst (λ w. SameAnswer w c) (sym h) k
 answer_by Done b c h k = subst (λ w. SameAnswer w c) (sym h) k
 answer_by Waits b c h k = subst (λ w. SameAnswer w c) (sym h) k
@@ -37,7 +37,7 @@ answer_by (Rows a) Waits c h k = absurd cc
 answer_by (Rows a) (Failed fault) c h k = absurd cc
 answer_by (Rows a) Left c h k = absurd cc
 
-table_by : (a b c : Option (Vec (List Value))) → SameTable a b → SameTable b c → SameTable a c
+pub table_by : (a b c : Option (Vec (List Value))) → SameTable a b → SameTable b c → SameTable a c
 table_by (Some a) (Some b) (Some c) h k = λ row. h row ∙ k row
 table_by None None None h k = tt
 table_by (Some a) (Some b) None h k = absurd k

@@ -90,7 +90,7 @@ fn same_steps(a: &[Vec<Outcome<'_>>], b: &[Vec<Outcome<'_>>]) -> bool
 }
 
 /// Whether both are the same rows, or both no table.
-pub fn same_table(a: &Option<Vec<Row>>, b: &Option<Vec<Row>>) -> bool
+fn same_table(a: &Option<Vec<Row>>, b: &Option<Vec<Row>>) -> bool
     ensures { IsTrue result ↔ SameTable a.now b.now }
 {
     match (a, b) {
@@ -100,7 +100,8 @@ pub fn same_table(a: &Option<Vec<Row>>, b: &Option<Vec<Row>>) -> bool
     }
 }
 
-fn same_tables(a: &[Option<Vec<Row>>], b: &[Option<Vec<Row>>]) -> bool
+/// Whether the same tables are there, each with the same rows.
+pub fn same_tables(a: &[Option<Vec<Row>>], b: &[Option<Vec<Row>>]) -> bool
     ensures { IsTrue result ↔ Pairwise SameTable a.now b.now }
 {
     if a.len() != b.len() {

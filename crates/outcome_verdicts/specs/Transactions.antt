@@ -1,17 +1,25 @@
 -- The transactions of a permutation, and orders of them.
-use Rattle.std.specs.Prelude.{ℕ, ◌-◌, ◌==◌, Bool, true, false, not, List, [], ◌∷◌, ◌++◌, length, map, flat_map, filter_map, take, fold, Option, option_and_then, slice_get, if◌then◌else◌}
+use Rattle.std.specs.Prelude.{ℕ, ◌-◌, ◌==◌, Bool, true, false, List, [], ◌∷◌, map, flat_map, filter_map, fold, Option, option_and_then, slice_get, if◌then◌else◌}
 use Rattle.std.specs.List.{enumerate_from, filter}
 use Rattle.std.specs.Option.{option_map_or}
+use Rattle.std.specs.Global.{Vec}
 use Rattle.sql_trees.specs.Statements.{StmtTree}
 use Rattle.sql_trees.specs.Statements.{Begin, Commit, Rollback}
 use Rattle.session_machine.specs.Machine.{Blocks, stmts_of}
 use Rattle.spec_parser.specs.Trees.{PartTree, StepTree, SessionTree, EntryTree, SpecTree}
 use Rattle.permutation_lists.specs.Permutations.{entries_of}
+use Rattle.outcome_verdicts.specs.declared.transactions.Transaction.{Transaction}
 
 -- steps of a session, by their numbers in it
 pub record TransactionTree : Type 0 where
   pub session : ℕ
   pub steps : List ℕ
+
+abbrev pub transaction_view : Transaction → TransactionTree
+transaction_view t = record { session = t.session; steps = t.steps.items }
+
+abbrev pub list_view : Vec Transaction → List TransactionTree
+list_view ts = map transaction_view ts.items
 
 -- a transaction is open after a statement that worked: BEGIN opens one, COMMIT and ROLLBACK end it
 abbrev pub is_open_after : Bool → StmtTree → Bool
