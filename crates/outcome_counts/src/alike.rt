@@ -90,7 +90,7 @@ fn same_steps(a: &[Vec<Outcome<'_>>], b: &[Vec<Outcome<'_>>]) -> bool
 }
 
 /// Whether both are the same rows, or both no table.
-fn same_table(a: &Option<Vec<Row>>, b: &Option<Vec<Row>>) -> bool
+pub fn same_table(a: &Option<Vec<Row>>, b: &Option<Vec<Row>>) -> bool
     ensures { IsTrue result ↔ SameTable a.now b.now }
 {
     match (a, b) {

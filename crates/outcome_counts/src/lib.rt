@@ -10,7 +10,7 @@ mod rows;
 mod serial;
 mod standing;
 
-pub use alike::{same_answers, same_tables};
+pub use alike::{same_answers, same_table, same_tables};
 pub use answers::answers_of;
 pub use counted::{Counted, Group, copied_entries};
 pub use outcome::RunOutcome;

@@ -3,7 +3,8 @@
 use crate::cells::{answers_cell, one_line, table_cell};
 use crate::names::{outcome_name, permutation_text, sessions_text};
 use outcome_counts::{Group, RunOutcome, same_answers, same_table};
-use run_outcomes::{Judged, Outcomes, SerialOrder, Verdict};
+use outcome_verdicts::{SerialOrder, Verdict};
+use run_outcomes::{Judged, Outcomes};
 use spec_parser::Spec;
 use std::alloc::{AllocError, Global};
 

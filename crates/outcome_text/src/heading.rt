@@ -1,6 +1,7 @@
 //! How many permutations and outcomes there are, in a line or two.
 
-use run_outcomes::{Outcomes, Verdict};
+use outcome_verdicts::Verdict;
+use run_outcomes::Outcomes;
 use std::alloc::{AllocError, Global};
 
 /// How many outcomes no serial order has.

@@ -8,7 +8,8 @@ use crate::markup::{HEAD, put_escaped, put_in, put_lines};
 use crate::names::{outcome_name, permutation_text, sessions_text, step_names, verdict_text};
 use crate::page::lines_of;
 use outcome_counts::{Group, RunOutcome};
-use run_outcomes::{Judged, Outcomes, SerialOrder, Verdict};
+use outcome_verdicts::{SerialOrder, Verdict};
+use run_outcomes::{Judged, Outcomes};
 use spec_parser::Spec;
 use std::alloc::{AllocError, Global};
 

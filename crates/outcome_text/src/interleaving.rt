@@ -3,7 +3,8 @@
 use crate::cells::answers_cell;
 use crate::markup::{put_in, put_lines};
 use outcome_counts::{RunOutcome, same_answers};
-use run_outcomes::{step_number, written};
+use outcome_verdicts::step_number;
+use run_outcomes::written;
 use spec_parser::{Entry, Spec};
 use std::alloc::{AllocError, Global};
 

@@ -1,6 +1,7 @@
 //! Names of sessions, steps, tables and outcomes.
 
-use run_outcomes::{Verdict, written};
+use outcome_verdicts::Verdict;
+use run_outcomes::written;
 use spec_parser::{Entry, Spec, session_numbered};
 use std::alloc::{AllocError, Global};
 

@@ -5,3 +5,4 @@ pub mod Sames
 pub mod Capped
 pub mod Ends
 pub mod Told
+pub mod Judging

@@ -1,6 +1,7 @@
 -- Orders that were told so far, and the list that stands for those of them that are serial.
-use Rattle.std.proofs.Common.{◌≡◌, ℕ, List, [], ◌∷◌, ◌++◌, sym, subst, ⊎_elim, arith}
+use Rattle.std.proofs.Common.{◌≡◌, ◌∙◌, ◌⊎◌, ℕ, List, [], ◌∷◌, ◌++◌, refl, sym, ap, append_assoc, subst, ⊎_elim, arith}
 use Rattle.std.specs.Prelude.{Contains}
+use Rattle.std.proofs.lemmas.List.{append-nil}
 use Rattle.std.proofs.lemmas.List.Elements.{Contains-append_left, Contains-push, Contains-push_cases}
 use Rattle.permutation_lists.specs.Interleavings.{interleavings, IsInterleaving}
 use Rattle.permutation_lists.proofs.Members.{interleavings_keep_counts}
@@ -9,7 +10,7 @@ use Rattle.outcome_counts.specs.Outcomes.{SameOutcome}
 use Rattle.outcome_counts.proofs.Sameness.{same_by}
 use Rattle.outcome_verdicts.specs.declared.serial_orders.SerialOrder.{SerialOrder}
 use Rattle.outcome_verdicts.specs.Verdicts.{Orders, StandFor}
-use Rattle.outcome_verdicts.specs.Code.Adding.{IsAdded, known, new}
+use Rattle.outcome_verdicts.specs.Code.Adding.{IsAdded, IsTold, known, new}
 
 -- one of these orders, that is so
 abbrev pub Told : Orders → List (List ℕ) → Orders
@@ -18,7 +19,7 @@ Told Has done = λ order o. Contains done order × Has order o
 none_there : {A : Type 0} (x : A) → Contains [] x → ⊥
 none_there x among = omega (arith, among.1)
 
-pub none_told : (Has : Orders) → StandFor (Told Has []) []
+none_told : (Has : Orders) → StandFor (Told Has []) []
 none_told Has = record {
   each = λ s among. absurd (none_there s among);
   all = λ order o told. absurd (none_there order told.0);
@@ -28,7 +29,7 @@ more_done : (Has : Orders) (done : List (List ℕ)) (order other : List ℕ) (o 
 more_done Has done order other o told = (Contains-append_left done (order ∷ []) other told.0, told.1)
 
 -- one more order was told, which has this outcome
-pub one_told : (Has : Orders) (done : List (List ℕ)) (before after : List SerialOrder) (order : List ℕ) (o : RunOutcome) → StandFor (Told Has done) before → Has order o
+one_told : (Has : Orders) (done : List (List ℕ)) (before after : List SerialOrder) (order : List ℕ) (o : RunOutcome) → StandFor (Told Has done) before → Has order o
     → ((a b : RunOutcome) → Has order a → Has order b → SameOutcome a b) → IsAdded before after order o → StandFor (Told Has (done ++ order ∷ [])) after
 one_told Has done before after order o stand is one (known other found same) = record {
   each = λ s among. more_done Has done order s.sessions.items s.outcome (stand.each s (subst (λ (ss : List SerialOrder). Contains ss s) same among));
@@ -66,7 +67,7 @@ one_told Has done before after order o stand is one (new s sessions own none sam
 }
 
 -- or has none
-pub none_has : (Has : Orders) (done : List (List ℕ)) (orders : List SerialOrder) (order : List ℕ) → StandFor (Told Has done) orders → ((o : RunOutcome) → Has order o → ⊥)
+none_has : (Has : Orders) (done : List (List ℕ)) (orders : List SerialOrder) (order : List ℕ) → StandFor (Told Has done) orders → ((o : RunOutcome) → Has order o → ⊥)
     → StandFor (Told Has (done ++ order ∷ [])) orders
 none_has Has done orders order stand none = record {
   each = λ s among. more_done Has done order s.sessions.items s.outcome (stand.each s among);
@@ -76,7 +77,7 @@ none_has Has done orders order stand none = record {
 }
 
 -- all were told
-pub all_told : (Has : Orders) (counts : List ℕ) (done : List (List ℕ)) (orders : List SerialOrder) → interleavings counts ≡ done → StandFor (Told Has done) orders
+all_told : (Has : Orders) (counts : List ℕ) (done : List (List ℕ)) (orders : List SerialOrder) → interleavings counts ≡ done → StandFor (Told Has done) orders
     → StandFor (λ order o. IsInterleaving counts order × Has order o) orders
 all_told Has counts done orders is stand = record {
   each = λ s among.
@@ -84,3 +85,30 @@ all_told Has counts done orders is stand = record {
       ((interleavings_keep_counts counts s.sessions.items).0 (subst (λ (ls : List (List ℕ)). Contains ls s.sessions.items) (sym is) told.0), told.1);
   all = λ order o told. stand.all order o (subst (λ (ls : List (List ℕ)). Contains ls order) is ((interleavings_keep_counts counts order).1 told.0), told.1);
 }
+
+-- of all orders so many were told, and these are left
+pub record OrdersSoFar (Has : Orders) (all left : List (List ℕ)) (orders : List SerialOrder) : Type 0 where
+  pub done : List (List ℕ)
+  pub split : all ≡ done ++ left
+  pub stand : StandFor (Told Has done) orders
+
+pub at_first : (Has : Orders) (all left : List (List ℕ)) (orders : List SerialOrder) → left ≡ all → orders ≡ [] → OrdersSoFar Has all left orders
+at_first Has all left orders is none = record { done = []; split = sym is; stand = subst (StandFor (Told Has [])) (sym none) (none_told Has) }
+
+pub next_order : (Has : Orders) (all left more : List (List ℕ)) (before after : List SerialOrder) (order : List ℕ) → ((a b : RunOutcome) → Has order a → Has order b → SameOutcome a b)
+    → OrdersSoFar Has all left before → left ≡ order ∷ more → IsTold Has before after order → OrdersSoFar Has all more after
+next_order Has all left more before after order one so is told = record {
+  done = so.done ++ order ∷ [];
+  split = so.split ∙ ap (λ (x : List (List ℕ)). so.done ++ x) is ∙ sym (append_assoc so.done (order ∷ []) more);
+  stand =
+      ⊎_elim
+      (λ (h : (o : RunOutcome) × Has order o × IsAdded before after order o). one_told Has so.done before after order h.0 so.stand h.1 one h.2)
+      (λ (h : ((o : RunOutcome) → Has order o → ⊥) × (after ≡ before)). subst (StandFor (Told Has (so.done ++ order ∷ []))) (sym h.1) (none_has Has so.done before order so.stand h.0))
+      told;
+}
+
+pub at_last : (Has : Orders) (counts wanted : List ℕ) (left : List (List ℕ)) (orders : List SerialOrder) → OrdersSoFar Has (interleavings counts) left orders → left ≡ [] → counts ≡ wanted
+    → StandFor (λ order o. IsInterleaving wanted order × Has order o) orders
+at_last Has counts wanted left orders so none is =
+    subst (λ (cs : List ℕ). StandFor (λ order o. IsInterleaving cs order × Has order o) orders) is
+    (all_told Has counts so.done orders (so.split ∙ ap (λ (x : List (List ℕ)). so.done ++ x) none ∙ append-nil so.done) so.stand)

@@ -28,7 +28,7 @@ one_next : (p q : Machine) (reply : Reply) (n : Result Next Refusal) → n ≡ O
 one_next p q reply n a b = ap (λ (k : Next). k.machine) (same_next (record { machine = p; reply = reply }) (record { machine = q; reply = reply }) (sym a ∙ b))
 
 -- a history leads to one state
-one_state : (blocks : Blocks) (mode : Mode) (m : Machine) (items : List HistItem) (a b : Machine) → Run blocks mode m items a → Run blocks mode m items b → a ≡ b
+pub one_state : (blocks : Blocks) (mode : Mode) (m : Machine) (items : List HistItem) (a b : Machine) → Run blocks mode m items a → Run blocks mode m items b → a ≡ b
 one_state blocks mode m [] a b r s = r ∙ sym s
 one_state blocks mode m (x ∷ xs) a b r s =
     one_state blocks mode r.0 xs a b r.2 (subst (λ (w : Machine). Run blocks mode w xs b) (sym (one_next r.0 s.0 x.reply (next blocks mode m x.event) r.1 s.1)) s.2)

@@ -1,5 +1,4 @@
 pub mod Endings
 pub mod Tables
 pub mod Counting
-pub mod Transactions
-pub mod Verdicts
+pub mod Judging

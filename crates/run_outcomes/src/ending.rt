@@ -3,6 +3,7 @@
 ghost use Rattle.std.specs.Prelude.{◌≡◌, ◌≤◌, IfOk, length, map};
 ghost use Rattle.spec_parser.specs.Trees.{entry_view, spec_view};
 ghost use Rattle.report_lines.specs.Starts.{segment_start};
+ghost use Rattle.report_text.specs.Code.Turns.{setup_numbers};
 ghost use Rattle.run_outcomes.specs.Endings.{ending, ending_in, wanted};
 
 use crate::setups::setups_of;
@@ -55,6 +56,20 @@ pub fn ending_in(
     let (_lines, state) = report(alloc, &run)?;
     let early = run.segments().count() < setups.len() + entries.len();
     Ok(end_of(state, early))
+}
+
+/// How many items of the history are setups.
+pub fn setups_len(
+    alloc: Global,
+    spec: &Spec<'_>,
+    entries: &[Entry],
+    items: &[HistItem<'_>],
+) -> Result<usize, AllocError>
+    ensures { IfOk result (λ n. n ≡ segment_start items.now (length (setup_numbers (spec_view spec.now)))) }
+{
+    let setups = setups_of(alloc, spec)?;
+    let run = PermutationRun::new(alloc, entries, items, setups.len())?;
+    Ok(run.segments().start(setups.len()))
 }
 
 /// How many items of the history come before the teardowns.

@@ -7,12 +7,8 @@ mod outcomes;
 mod play;
 mod serial;
 mod setups;
-mod transactions;
 mod verdict;
 
 pub use ending::Ending;
 pub use outcome::written;
 pub use outcomes::{Judged, Outcomes, outcomes_of};
-pub use serial::SerialOrder;
-pub use transactions::step_number;
-pub use verdict::Verdict;

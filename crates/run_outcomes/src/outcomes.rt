@@ -8,15 +8,16 @@ ghost use Rattle.permutation_plans.specs.Regular.{IsRegular};
 ghost use Rattle.outcome_counts.specs.Code.Adding.{IsOneMore};
 ghost use Rattle.outcome_counts.specs.Counts.{Fate, HasRoom, counts_view};
 ghost use Rattle.run_outcomes.specs.Counting.{AllCounted, ComesTo, IsFate};
+ghost use Rattle.run_outcomes.specs.Judging.{AllJudged, IsJudged};
 
 use crate::ending::{Ending, ending_in};
 use crate::outcome::{outcome_of, tables_made};
 use crate::play::play;
-use crate::serial::{SerialOrder, serial_orders};
-use crate::transactions::transactions_of;
-use crate::verdict::{Verdict, verdict_of};
+use crate::serial::serial_orders;
+use crate::verdict::verdict_of;
 use iso_lexer::Page;
 use outcome_counts::{Counted, Group};
+use outcome_verdicts::{SerialOrder, Verdict, transactions_of};
 use permutation_lists::Permutations;
 use permutations::{RunFault, write_permutation};
 use session_machine::HistItem;
@@ -157,6 +158,7 @@ fn judge<'t>(
     group: &Group<'t>,
 ) -> Result<Judged<'t>, RunFault>
     requires spec { Stands (spec_view spec.now) }
+    ensures { IfOk result (λ judged. IsJudged (spec_view spec.now) (blocks_of blocks.now) (map string_bytes names.now) group.now judged) }
 {
     let lists = transactions_of(alloc, spec, blocks, &group.nearest)?;
     let orders = serial_orders(alloc, spec, blocks, names, &lists)?;
@@ -173,7 +175,8 @@ fn judge_all<'t>(
     groups: &[Group<'t>],
 ) -> Result<Vec<Judged<'t>>, RunFault>
     requires spec { Stands (spec_view spec.now) }
-    ensures { IfOk result (λ judged. length judged.items ≡ length groups.now) }
+    ensures judged { IfOk result (λ judged. AllJudged (spec_view spec.now) (blocks_of blocks.now) (map string_bytes names.now) groups.now judged.items) }
+    ensures long { IfOk result (λ judged. length judged.items ≡ length groups.now) }
 {
     let mut all = Vec::new(alloc);
     for group in groups {
@@ -192,7 +195,8 @@ pub fn outcomes_of<'t>(
 ) -> Result<Outcomes<'t>, RunFault>
     requires spec { Stands (spec_view spec.now) }
     ensures counted { IfOk result (λ o. AllCounted (spec_view spec.now) (blocks_of blocks.now) (map string_bytes o.tables.items) o.permutations (counts_view o.counted)) }
-    ensures judged { IfOk result (λ o. length o.judged.items ≡ length o.counted.groups.items) }
+    ensures judged { IfOk result (λ o. AllJudged (spec_view spec.now) (blocks_of blocks.now) (map string_bytes o.tables.items) o.counted.groups.items o.judged.items) }
+    ensures long { IfOk result (λ o. length o.judged.items ≡ length o.counted.groups.items) }
 {
     let tables = tables_made(alloc, spec, blocks)?;
     let (permutations, counted) = count_all(alloc, spec, blocks, tables.as_slice(), limit)?;

@@ -1,130 +1,42 @@
 //! Serial orders of transactions, and their outcomes.
 
-ghost use Rattle.std.specs.Prelude.{◌≡◌, ◌<◌, ◌^◌, IfOk, length, map};
+ghost use Rattle.std.specs.Prelude.{◌≡◌, ◌<◌, ◌^◌, ◌↔◌, IfOk, IsTrue, MatchOption, OnOk, length, map, string_bytes};
 ghost use Rattle.sql_blocks.specs.Blocks.{blocks_of};
 ghost use Rattle.permutation_plans.specs.Regular.{IsRegular};
 ghost use Rattle.spec_parser.specs.Trees.{entry_view, spec_view};
 ghost use Rattle.spec_parser.specs.Stands.{Stands};
+ghost use Rattle.outcome_counts.specs.declared.outcome.RunOutcome.{RunOutcome};
+ghost use Rattle.outcome_verdicts.specs.Transactions.{list_view};
+ghost use Rattle.outcome_verdicts.specs.Verdicts.{StandFor};
+ghost use Rattle.outcome_verdicts.specs.Code.Adding.{IsTold};
+ghost use Rattle.run_outcomes.specs.Judging.{AreSerialEntries, IsSerialIn, IsSerialOrder, IsSerialRun};
 
-use crate::ending::{Ending, ending_in};
+use crate::ending::{Ending, ending_in, front_len, setups_len};
 use crate::outcome::outcome_of;
 use crate::play::play;
-use crate::transactions::{
-    CLOSED, Standing, Transaction, after_step, has_failed, standings_at_first, step_number,
-};
-use outcome_counts::RunOutcome;
+use outcome_counts::{RunOutcome, is_serial};
+use outcome_verdicts::{SerialOrder, Transaction, add_order, counts_of, entries_in_order};
 use permutations::{Interleavings, RunFault};
-use session_machine::{HistItem, Outcome};
+use session_machine::HistItem;
 use spec_parser::{Entry, Spec};
 use sql_blocks::Block;
 use std::alloc::{AllocError, Global};
 
-/// A serial order of transactions, by their sessions, and its outcome.
-#[derive(Drop)]
-pub struct SerialOrder<'t> {
-    pub sessions: Vec<u32>,
-    pub outcome: RunOutcome<'t>,
-}
-
-/// Whether another session has a transaction open in which a query has run.
-fn is_beside_another(standings: &[Standing], session: u32) -> bool {
-    for (other, standing) in standings.iter().enumerate() {
-        if other != session as usize && standing.open && standing.queried {
-            return true;
-        }
-    }
-    false
-}
-
-/// Whether something has waited.
-fn has_waited(items: &[HistItem<'_>]) -> bool {
-    for item in items {
-        if let Outcome::Waits = item.reply.outcome {
-            return true;
-        }
-    }
-    false
-}
-
-/// What a session has open after one of its steps.
-fn after_entry(
-    spec: &Spec<'_>,
-    blocks: &[Block<'_>],
-    outcome: &RunOutcome<'_>,
-    entry: &Entry,
-    before: Standing,
-) -> Standing {
-    let number = step_number(spec, entry.session, entry.step);
-    if let Some(answers) = outcome.answers.get(number) {
-        if has_failed(answers) {
-            return CLOSED;
-        }
-    }
-    after_step(spec, blocks, entry, before)
-}
-
-/// Whether each step of the entries starts while no other session has a transaction open in which a query has run.
-fn is_alone(
+/// Whether the entries that have this history are serial: behind the setups, and up to their end.
+fn are_serial(
     alloc: Global,
     spec: &Spec<'_>,
     blocks: &[Block<'_>],
     entries: &[Entry],
-    outcome: &RunOutcome<'_>,
-) -> Result<bool, AllocError> {
-    let mut standings = standings_at_first(alloc, spec, blocks)?;
-    for entry in entries {
-        if is_beside_another(&standings, entry.session) {
-            return Ok(false);
-        }
-        if let Some(standing) = standings.get_mut(entry.session as usize) {
-            *standing = after_entry(spec, blocks, outcome, entry, *standing);
-        }
-    }
-    Ok(true)
-}
-
-/// Adds the steps of a transaction.
-fn push_steps(
-    alloc: Global,
-    entries: &mut Vec<Entry>,
-    transaction: &Transaction,
-) -> Result<(), AllocError> {
-    for step in &transaction.steps {
-        entries.push(Entry {
-            session: transaction.session,
-            step: *step,
-            markers: Vec::new(alloc),
-        })?;
-    }
-    Ok(())
-}
-
-/// How often a session's turn came among these.
-fn turns_before(turns: &[u32], session: u32) -> usize {
-    let mut before = 0usize;
-    for turn in turns {
-        if *turn == session {
-            before = before.saturating_add(1);
-        }
-    }
-    before
-}
-
-/// The entries of transactions in this order of their sessions.
-fn entries_in_order(
-    alloc: Global,
-    lists: &[Vec<Transaction>],
-    turns: &[u32],
-) -> Result<Vec<Entry>, AllocError> {
-    let mut entries = Vec::new(alloc);
-    for (place, session) in turns.iter().enumerate() {
-        if let Some(list) = lists.get((*session as usize).saturating_sub(1)) {
-            if let Some(transaction) = list.get(turns_before(&turns[..place], *session)) {
-                push_steps(alloc, &mut entries, transaction)?;
-            }
-        }
-    }
-    Ok(entries)
+    items: &[HistItem<'_>],
+) -> Result<bool, AllocError>
+    requires { Stands (spec_view spec.now) }
+    ensures { IfOk result (λ are. IsTrue are ↔ AreSerialEntries (spec_view spec.now) (blocks_of blocks.now) (map entry_view entries.now) items.now) }
+{
+    let setups = setups_len(alloc, spec, entries, items)?;
+    let len = front_len(alloc, spec, entries, items)?;
+    let count = spec.sessions.len() as u32 + 1;
+    Ok(is_serial(blocks, count, setups, &items[..len]))
 }
 
 /// The outcome of these entries, which have this history, if they run to their end as a serial order.
@@ -138,16 +50,19 @@ fn outcome_if_serial<'t>(
 ) -> Result<Option<RunOutcome<'t>>, RunFault>
     requires stands { Stands (spec_view spec.now) }
     requires regular { IsRegular (spec_view spec.now) (blocks_of blocks.now) (map entry_view entries.now) items.now }
+    ensures { IfOk result (λ found. MatchOption found
+        ((o : RunOutcome) → IsSerialRun (spec_view spec.now) (blocks_of blocks.now) (map string_bytes names.now) (map entry_view entries.now) o → ⊥)
+        (λ o. IsSerialRun (spec_view spec.now) (blocks_of blocks.now) (map string_bytes names.now) (map entry_view entries.now) o)) }
 {
-    let ending = ending_in(alloc, spec, entries, items)?;
-    if ending != Ending::Whole || has_waited(items) {
-        return Ok(None);
-    }
-    let outcome = outcome_of(alloc, spec, blocks, names, entries, items)?;
-    if is_alone(alloc, spec, blocks, entries, &outcome)? {
-        Ok(Some(outcome))
-    } else {
-        Ok(None)
+    match ending_in(alloc, spec, entries, items)? {
+        Ending::Whole => {
+            if !are_serial(alloc, spec, blocks, entries, items)? {
+                return Ok(None);
+            }
+            let outcome = outcome_of(alloc, spec, blocks, names, entries, items)?;
+            Ok(Some(outcome))
+        }
+        _ => Ok(None),
     }
 }
 
@@ -160,6 +75,9 @@ fn serial_outcome<'t>(
     entries: &[Entry],
 ) -> Result<Option<RunOutcome<'t>>, RunFault>
     requires { Stands (spec_view spec.now) }
+    ensures { IfOk result (λ found. MatchOption found
+        ((o : RunOutcome) → IsSerialRun (spec_view spec.now) (blocks_of blocks.now) (map string_bytes names.now) (map entry_view entries.now) o → ⊥)
+        (λ o. IsSerialRun (spec_view spec.now) (blocks_of blocks.now) (map string_bytes names.now) (map entry_view entries.now) o)) }
 {
     let engine = play(alloc, spec, blocks, entries)?;
     let outcome = outcome_if_serial(alloc, spec, blocks, names, entries, engine.history());
@@ -167,39 +85,27 @@ fn serial_outcome<'t>(
     outcome
 }
 
-/// How many transactions each session has.
-fn counts_of(alloc: Global, lists: &[Vec<Transaction>]) -> Result<Vec<u32>, AllocError>
-    ensures { IfOk result (λ counts. length counts.items ≡ length lists.now) }
-{
-    let mut counts = Vec::new(alloc);
-    for list in lists {
-        counts.push(u32::try_from(list.len()).unwrap_or(u32::MAX))?;
-    }
-    Ok(counts)
-}
-
-/// Whether one of the orders has the outcome.
-fn is_known(orders: &[SerialOrder<'_>], outcome: &RunOutcome<'_>) -> bool {
-    for order in orders {
-        if order.outcome.same(outcome) {
-            return true;
-        }
-    }
-    false
-}
-
-/// Adds the order, unless one with its outcome is there.
-fn push_if_new<'t>(
+/// Runs the transactions in this order, and adds it if it is serial and no other one has its outcome.
+fn tell_order<'t>(
     alloc: Global,
+    spec: &Spec<'_>,
+    blocks: &[Block<'t>],
+    names: &[String],
+    lists: &[Vec<Transaction>],
+    order: &[u32],
     orders: &mut Vec<SerialOrder<'t>>,
-    turns: &[u32],
-    outcome: RunOutcome<'t>,
-) -> Result<(), AllocError> {
-    if !is_known(orders, &outcome) {
-        let sessions = Vec::from_slice(alloc, turns)?;
-        orders.push(SerialOrder { sessions, outcome })?;
+) -> Result<(), RunFault>
+    requires { Stands (spec_view spec.now) }
+    ensures { OnOk result (IsTold (IsSerialIn (spec_view spec.now) (blocks_of blocks.now) (map string_bytes names.now) (map list_view lists.now)) orders.old.items orders.new.items order.now) }
+{
+    let entries = entries_in_order(alloc, lists, order)?;
+    match serial_outcome(alloc, spec, blocks, names, &entries)? {
+        Some(outcome) => {
+            add_order(alloc, orders, order, outcome)?;
+            Ok(())
+        }
+        None => Ok(()),
     }
-    Ok(())
 }
 
 /// The serial orders of these transactions, of each outcome the first.
@@ -212,16 +118,14 @@ pub fn serial_orders<'t>(
 ) -> Result<Vec<SerialOrder<'t>>, RunFault>
     requires spec { Stands (spec_view spec.now) }
     requires few { length lists.now < 2 ^ 32 }
+    ensures { IfOk result (λ orders. StandFor (IsSerialOrder (spec_view spec.now) (blocks_of blocks.now) (map string_bytes names.now) (map list_view lists.now)) orders.items) }
 {
     let counts = counts_of(alloc, lists)?;
     let mut orders = Vec::new(alloc);
     let mut turns = Vec::new(alloc);
     let mut interleavings = Interleavings::new(alloc, &counts)?;
     while interleavings.next(&mut turns)? {
-        let entries = entries_in_order(alloc, lists, &turns)?;
-        if let Some(outcome) = serial_outcome(alloc, spec, blocks, names, &entries)? {
-            push_if_new(alloc, &mut orders, &turns, outcome)?;
-        }
+        tell_order(alloc, spec, blocks, names, lists, &turns, &mut orders)?;
     }
     Ok(orders)
 }
