@@ -1,6 +1,6 @@
 -- What stopped a run may stop it.
-use Rattle.std.proofs.Common.{◌≡◌, ℕ, List, Bool, true, false, refl, sym, ap, subst, Option, Some, None}
-use Rattle.std.specs.Prelude.{IfErr, IfSome, Result, Ok, Err}
+use Rattle.std.proofs.Common.{◌≡◌, ◌∙◌, ℕ, List, Bool, true, false, refl, sym, ap, subst, Option, Some, None}
+use Rattle.std.specs.Prelude.{IfErr, IfSome, Result, Ok, Err, if◌then◌else◌}
 use Rattle.session_machine.specs.declared.event.Mode.{Mode}
 use Rattle.session_machine.specs.declared.event.Mode.TheVariants.{Directed}
 use Rattle.session_machine.specs.declared.fault.EngineFault.{EngineFault}
@@ -106,8 +106,8 @@ seat_may orders blocks count session fault is = subst (MayStop orders blocks cou
 late_may : (orders : Orders) (blocks : Blocks) (count : ℕ) (fault : ThreadFault) → fault ≡ thread_faults.Engine engine_faults.NotYourTurn → MayStop orders blocks count fault
 late_may orders blocks count fault is = subst (MayStop orders blocks count) (sym is) tt
 
-told_err : {A : Type 0} {P : ThreadFault → Type 0} (fault : ThreadFault) (result : Result A ThreadFault) → result ≡ Err fault → P fault → IfErr result P
-told_err {P = P} fault result is may = subst (λ r. IfErr r P) (sym is) may
+told_err : {A : Type 0} (P : ThreadFault → Type 0) (fault : ThreadFault) (result : Result A ThreadFault) → result ≡ Err fault → P fault → IfErr result P
+told_err P fault result is may = subst (λ r. IfErr r P) (sym is) may
 
 -- so the answer is one that may stop the run
 pub stopped_by : {A : Type 0} (orders : Orders) (blocks : Blocks) (count : ℕ) (e : Engine) (seats : List SeatOf) (met late : Option ThreadFault) (result : Result A ThreadFault)
@@ -115,9 +115,18 @@ pub stopped_by : {A : Type 0} (orders : Orders) (blocks : Blocks) (count : ℕ) 
     → IfSome met (λ f. result ≡ Err f) → (met ≡ None → IsOf e blocks count Directed → IfSome late (λ f. result ≡ Err f))
     → (met ≡ None → IsOf e blocks count Directed → late ≡ None → IfErr result (λ f. (s : ℕ) × (f ≡ thread_faults.SeatMismatch s) × IsMisfit e seats s))
     → IfErr result (MayStop orders blocks count)
-stopped_by orders blocks count e seats (Some fault) late result may of told met behind seated = told_err fault result met may
-stopped_by orders blocks count e seats None (Some fault) result may of told met behind seated = told_err fault result (behind refl (of refl)) (late_may orders blocks count fault told)
+stopped_by orders blocks count e seats (Some fault) late result may of told met behind seated = told_err (MayStop orders blocks count) fault result met may
+stopped_by orders blocks count e seats None (Some fault) result may of told met behind seated = told_err (MayStop orders blocks count) fault result (behind refl (of refl)) (late_may orders blocks count fault told)
 stopped_by {A = A} orders blocks count e seats None None result may of told met behind seated = by_seats result (seated refl (of refl) refl) where
   by_seats : (r : Result A ThreadFault) → IfErr r (λ f. (s : ℕ) × (f ≡ thread_faults.SeatMismatch s) × IsMisfit e seats s) → IfErr r (MayStop orders blocks count)
   by_seats (Ok closed) is = tt
   by_seats (Err fault) is = seat_may orders blocks count is.0 fault is.1
+
+-- a fault that was met, but not what an engine refused, is told whatever run it is
+pub met_told : {A : Type 0} (is_own : Bool) (met told : Option ThreadFault) (result : Result A ThreadFault) → told ≡ told_of is_own met
+    → IfSome told (λ f. result ≡ Err f) → IfSome met (λ f. is_refusal f ≡ false → result ≡ Err f)
+met_told is_own None told result is all = tt
+met_told true (Some f) told result is all = λ _. subst (λ (m : Option ThreadFault). IfSome m (λ f. result ≡ Err f)) is all
+met_told false (Some f) told result is all = λ no.
+    let same : told ≡ Some f = is ∙ ap (λ (b : Bool). Some (if b then thread_faults.OtherRun else f)) no in
+    subst (λ (m : Option ThreadFault). IfSome m (λ f. result ≡ Err f)) same all
