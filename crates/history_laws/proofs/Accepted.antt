@@ -19,7 +19,8 @@ use Rattle.report_lines.specs.Due.{orders}
 use Rattle.report_lines.specs.Orders.{orders_of}
 use Rattle.permutation_plans.specs.Regular.{next_order}
 use Rattle.permutation_plans.proofs.Replied.{legal_ends}
-use Rattle.history_laws.specs.UnderWay.{IsUnderWay, DoesOrder, HasItsBlocks, HasItsSteps}
+use Rattle.history_laws.specs.UnderWay.{IsUnderWay, DoesOrder}
+use Rattle.spec_files.specs.Complete.{HasItsBlocks, HasItsSteps}
 use Rattle.history_laws.specs.Laws.{BusySessionsWereLaunched}
 use Rattle.history_laws.proofs.Lists.{each_at, there}
 use Rattle.history_laws.proofs.Busy.{turned}

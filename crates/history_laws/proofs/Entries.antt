@@ -9,7 +9,7 @@ use Rattle.spec_parser.specs.Trees.{EntryTree, SessionTree, SpecTree}
 use Rattle.spec_parser.specs.Stands.{Stands, StepStands, EntryStands, PermStands}
 use Rattle.permutation_lists.specs.Interleavings.{interleavings, IsInterleaving}
 use Rattle.permutation_lists.specs.Permutations.{entries_of, permutations_of}
-use Rattle.history_laws.specs.UnderWay.{HasItsSteps}
+use Rattle.spec_files.specs.Complete.{HasItsSteps}
 
 -- a number that is less than how many steps the session has is a step's
 record AtSession (sessions : List SessionTree) (y j : ℕ) : Type 0 where

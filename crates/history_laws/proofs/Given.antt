@@ -19,7 +19,7 @@ use Rattle.spec_parser.specs.Stands.{Stands, parts_of, session_parts}
 use Rattle.spec_files.specs.declared.fault.BlockFault.{BlockFault}
 use Rattle.spec_files.specs.Blocks.{BlockWithRole, BlocksRead, fault, block, blocks_in}
 use Rattle.spec_files.specs.BlockAnswers.{block_as, HasShortText}
-use Rattle.history_laws.specs.UnderWay.{HasItsBlocks}
+use Rattle.spec_files.specs.Complete.{HasItsBlocks}
 use Rattle.history_laws.proofs.Lists.{each_left, each_right, each_unmap, each_of}
 use Rattle.history_laws.proofs.Kept.{err_not_ok, kept, no_definitions}
 

@@ -14,7 +14,7 @@ use Rattle.spec_parser.specs.Numbered.{session_numbered, step_of_entry}
 use Rattle.spec_parser.specs.Stands.{StepStands, session_parts}
 use Rattle.report_lines.specs.Due.{is_over}
 use Rattle.report_lines.specs.Orders.{launch_in, own_launches, setups_of, launch_of_entry, closing_of, with_leaves, orders_of}
-use Rattle.history_laws.specs.UnderWay.{HasItsBlocks, HasItsSteps}
+use Rattle.spec_files.specs.Complete.{HasItsBlocks, HasItsSteps}
 use Rattle.history_laws.proofs.Lists.{each_append, each_left, each_right, each_unmap, each_of, each_flat, each_at, there}
 
 -- the session is there, and may be given the block

@@ -16,7 +16,8 @@ use Rattle.spec_files.specs.Prints.{FileSays}
 use Rattle.history_laws.specs.Unfinished.{IsUnfinished}
 use Rattle.history_laws.specs.Left.{events_left}
 use Rattle.history_laws.specs.One.{ExactlyOne}
-use Rattle.history_laws.specs.UnderWay.{IsUnderWay, DoesOrder, HasItsBlocks, HasItsSteps}
+use Rattle.history_laws.specs.UnderWay.{IsUnderWay, DoesOrder}
+use Rattle.spec_files.specs.Complete.{HasItsBlocks, HasItsSteps, IsComplete}
 
 -- a session that is in a block was given it, and no item since ended it
 abbrev pub BusySessionsWereLaunched : Type 0
@@ -43,8 +44,7 @@ EventsAreFewer = (l : Launches) (entries : List EntryTree) (blocks : Blocks) (mo
 
 -- the blocks and steps of a spec that was read are there
 abbrev pub SpecsHaveTheirBlocks : Type 0
-SpecsHaveTheirBlocks = (bytes : List ℕ) (file : File) → FileIs bytes (Ok file)
-    → HasItsBlocks file.spec file.blocks × ((entries : List EntryTree) → Contains (permutations_of file.spec) entries → HasItsSteps file.spec entries)
+SpecsHaveTheirBlocks = (bytes : List ℕ) → IsComplete bytes
 
 -- each permutation of a file has exactly one regular history
 abbrev pub EachHasAHistory : Type 0

@@ -76,6 +76,3 @@ planned_on {R = R} driver spec n taken entries so_far now run count lt it long a
 pub all_more : {X : Type 0} (so_far now : List X) (x : X) (P : X → Type 0) → All P so_far → P x → now ≡ so_far ++ x ∷ [] → All P now
 all_more {X = X} so_far now x P all is pushed =
     subst (All P) (sym pushed) (All-append P so_far (x ∷ []) all (only P x is))
-
-pub all_none : {X : Type 0} (xs : List X) (P : X → Type 0) → xs ≡ [] → All P xs
-all_none {X = X} xs P none = subst (All P) (sym none) (λ k or lt. absurd (omega (arith, lt)))

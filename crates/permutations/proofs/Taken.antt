@@ -24,12 +24,13 @@ use Rattle.report_lines.specs.Starts.{order_of}
 use Rattle.permutation_plans.specs.Launches.{due_in}
 use Rattle.permutation_plans.specs.Regular.{next_order}
 use Rattle.permutation_plans.proofs.Next.{next_is}
-use Rattle.history_laws.specs.UnderWay.{AreInOrder, DoesOrder, HasItsBlocks, HasItsSteps}
+use Rattle.history_laws.specs.UnderWay.{AreInOrder, DoesOrder}
+use Rattle.spec_files.specs.Complete.{HasItsBlocks, HasItsSteps}
 use Rattle.history_laws.proofs.Busy.{busy_sessions_were_launched}
 use Rattle.history_laws.proofs.Accepted.{accepts, all_there}
 use Rattle.history_laws.proofs.Existing.{Fits, in_order}
 use Rattle.spec_files.specs.Faults.{thread_fault}
-use Rattle.permutations.specs.Stopped.{is_of_threads}
+use Rattle.spec_files.specs.Stopped.{is_of_threads}
 
 ordered_so : (event : Event) (order : Order) → IsOrder event order → IfSome (order_of event) (λ o. order ≡ o)
 ordered_so (Launch session block) order h = h
@@ -105,7 +106,7 @@ module _ (spec : SpecTree) (blocks : Blocks) (entries : List EntryTree) (fit : H
   of_threads thread_faults.Memory may = refl
   of_threads (thread_faults.Engine engine_faults.Memory) may = refl
   of_threads (thread_faults.Engine engine_faults.Busy) may = absurd (always_goes_on engine_faults.Busy may)
-  of_threads (thread_faults.Engine engine_faults.NotYourTurn) may = absurd (always_goes_on engine_faults.NotYourTurn may)
+  of_threads (thread_faults.Engine engine_faults.NotYourTurn) may = refl
   of_threads (thread_faults.Engine engine_faults.StillBlocked) may = absurd (always_goes_on engine_faults.StillBlocked may)
   of_threads (thread_faults.Engine engine_faults.Idle) may = absurd (always_goes_on engine_faults.Idle may)
   of_threads (thread_faults.Engine engine_faults.Spent) may = absurd (always_goes_on engine_faults.Spent may)

@@ -1,3 +1,2 @@
 pub mod Telling
-pub mod Stopped
 pub mod Inner

@@ -1,12 +1,11 @@
 //! A permutation's report in memory, before its turn comes.
 
-ghost use Rattle.std.specs.Prelude.{◌≡◌, All, map, IfSome};
+ghost use Rattle.std.specs.Prelude.{◌≡◌, map, IfSome};
 ghost use Rattle.sql_blocks.specs.Blocks.{blocks_of};
 ghost use Rattle.spec_parser.specs.Trees.{entry_view, spec_view};
 ghost use Rattle.spec_parser.specs.Stands.{Stands};
-ghost use Rattle.spec_files.specs.Drafts.{AreDrafts, HasRoomFor, IsDraft, entries_of};
+ghost use Rattle.spec_files.specs.Drafts.{AreDrafts, HasRoomFor, IsDraft};
 ghost use Rattle.permutations.specs.Inner.Runs.{RanSo};
-ghost use Rattle.permutations.specs.Stopped.{IsStoppedSo};
 
 use crate::thread_run::{runs_of, tell_permutation};
 use chain_store::ChainStore;
@@ -31,7 +30,6 @@ fn draft_of(
     requires ran { IfSome run (RanSo (spec_view spec.now) (blocks_of blocks.now) (map entry_view entries.items)) }
     ensures draft { IsDraft (spec_view spec.now) (blocks_of blocks.now) result }
     ensures entries { result.entries ≡ entries }
-    ensures sure { IsStoppedSo (spec_view spec.now) (blocks_of blocks.now) (map entry_view entries.items) result.result }
 {
     let mut text = Page::new(alloc);
     let mut notes = Page::new(alloc);
@@ -60,8 +58,7 @@ pub fn drafts_of<G: Gate, R: Threads + Wait + Sync>(
 ) -> Vec<Draft>
     requires stands { Stands (spec_view spec.now) }
     requires room { HasRoomFor drafts taken.items }
-    ensures drafts { AreDrafts (IsDraft (spec_view spec.now) (blocks_of blocks.now)) taken.items result }
-    ensures sure { All (λ draft. IsStoppedSo (spec_view spec.now) (blocks_of blocks.now) (entries_of draft) draft.result) result.items }
+    ensures { AreDrafts (IsDraft (spec_view spec.now) (blocks_of blocks.now)) taken.items result }
 {
     let mut runs = runs_of(rt, alloc, spec, blocks, &taken, gate).into_iter();
     for entries in taken {

@@ -5,8 +5,10 @@ ghost use Rattle.spec_parser.specs.Trees.{spec_view};
 ghost use Rattle.spec_parser.specs.Stands.{Stands};
 ghost use Rattle.spec_files.specs.Drafts.{AreDrafts, HasRoomFor, IsDraft};
 ghost use Rattle.spec_files.specs.Promises.{SpecIsRun};
+ghost use Rattle.spec_files.specs.Stopped.{IsStoppedByThreads};
 
 use crate::draft::drafts_of;
+use history_laws::laws::specs_have_their_blocks;
 use iso_lexer::{Sink, Source};
 use session_threads::Gate;
 use spec_files::{Draft, RunFault, SpecFile, run_spec_by};
@@ -21,7 +23,8 @@ use std::thread::Threads;
 /// other. Nothing that is written depends on anything but the bytes read and the limit. The file is refused before anything
 /// is written: for its length, as no UTF-8, for its tokens, as no spec, and for its blocks in the order of the file, in this
 /// order. After `limit` permutations, with one more there, the run ends; so it does after a setup that fails or waits. A
-/// permutation whose threads come to no end writes nothing, and the run ends in `Threads`; none ends in `ScheduleBroken`.
+/// permutation whose threads come to no end writes nothing, and the run ends in `Threads`; none ends in `ScheduleBroken`, and
+/// none in a refusal of what is the engine's to do next.
 ///
 /// ```
 /// let mut text = Vec::new(alloc);
@@ -40,8 +43,10 @@ pub fn run_spec<S: Source, W: Sink, N: Sink, G: Gate, R: Threads + Wait + Sync>(
     limit: u64,
     gate: &G,
 ) -> Result<(), RunFault>
-    ensures { SpecIsRun S.Source W.Sink N.Sink input.old input.new out.old out.new notes.old notes.new limit result }
+    ensures run { SpecIsRun S.Source W.Sink N.Sink input.old input.new out.old out.new notes.old notes.new limit result }
+    ensures sure { IsStoppedByThreads result }
 {
+    specs_have_their_blocks();
     let run = |file: &SpecFile<'_>, taken: Vec<Vec<Entry>>, room: Vec<Draft>| -> Vec<Draft>
         requires stands { Stands (spec_view file.now.spec) }
         requires room { HasRoomFor room taken.items }

@@ -12,9 +12,9 @@ ghost use Rattle.spec_files.specs.Inner.Resting.{IsAtRest};
 ghost use Rattle.spec_files.specs.Plans.{IsFollowing};
 ghost use Rattle.spec_files.specs.Runs.{is_of_one, is_of_run, has_broken, has_ended, IsOneTold};
 ghost use Rattle.spec_files.specs.Written.{IsWritten};
-ghost use Rattle.history_laws.specs.UnderWay.{HasItsBlocks, HasItsSteps};
+ghost use Rattle.spec_files.specs.Complete.{HasItsBlocks, HasItsSteps};
 ghost use Rattle.permutations.specs.Inner.Runs.{ArePlans, RanAsEach, RanSo};
-ghost use Rattle.permutations.specs.Stopped.{is_of_threads, IsStoppedSo};
+ghost use Rattle.spec_files.specs.Stopped.{is_of_threads, IsStoppedSo};
 
 use crate::driver::Plan;
 use chain_store::ChainStore;

@@ -8,7 +8,7 @@ use Rattle.session_machine.specs.Machine.{Blocks, Next}
 use Rattle.session_seats.specs.declared.fault.ThreadFault.TheVariants as thread_faults
 use Rattle.spec_parser.specs.Trees.{EntryTree, SpecTree}
 use Rattle.permutation_plans.specs.Launches.{due_in}
-use Rattle.history_laws.specs.UnderWay.{HasItsBlocks, HasItsSteps}
+use Rattle.spec_files.specs.Complete.{HasItsBlocks, HasItsSteps}
 use Rattle.spec_files.specs.declared.fault.RunFault.{RunFault}
 use Rattle.spec_files.specs.declared.fault.RunFault.TheVariants as faults
 use Rattle.permutations.proofs.Taken.{next_is_done}

@@ -8,7 +8,7 @@ ghost use Rattle.spec_parser.specs.Trees.{entry_view, spec_view};
 ghost use Rattle.spec_parser.specs.Stands.{Stands};
 ghost use Rattle.permutation_plans.specs.Launches.{due_in};
 ghost use Rattle.permutation_plans.specs.Regular.{IsRegular};
-ghost use Rattle.history_laws.specs.UnderWay.{HasItsBlocks, HasItsSteps};
+ghost use Rattle.spec_files.specs.Complete.{HasItsBlocks, HasItsSteps};
 ghost use Rattle.spec_files.specs.Inner.Resting.{IsAtRest};
 ghost use Rattle.spec_files.specs.Plans.{order_after, IsFollowing};
 ghost use Rattle.plain_runs.specs.Alone.{IsOfAlone, RefusesNext};

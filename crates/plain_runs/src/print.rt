@@ -6,7 +6,7 @@ ghost use Rattle.sql_blocks.specs.Blocks.{blocks_of};
 ghost use Rattle.spec_parser.specs.Trees.{EntryTree, entry_view, spec_view};
 ghost use Rattle.spec_parser.specs.Stands.{Stands};
 ghost use Rattle.permutation_lists.specs.Permutations.{permutations_of};
-ghost use Rattle.history_laws.specs.UnderWay.{HasItsBlocks, HasItsSteps};
+ghost use Rattle.spec_files.specs.Complete.{HasItsBlocks, HasItsSteps};
 ghost use Rattle.spec_files.specs.Files.{File, FileIs};
 ghost use Rattle.spec_files.specs.Prints.{Prints};
 ghost use Rattle.spec_files.specs.Runs.{has_ended, is_refusal, IsOneTold, IsTold};

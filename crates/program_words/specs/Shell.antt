@@ -14,6 +14,7 @@ use Rattle.spec_files.specs.FreeRuns.{FileFreeTold}
 use Rattle.spec_files.specs.Lists.{FileLists}
 use Rattle.spec_files.specs.Prints.{FileSays}
 use Rattle.spec_files.specs.Runs.{is_refusal, is_of_listing, has_broken, has_ended, status_of as fault_status, IsListed, IsTold}
+use Rattle.spec_files.specs.Stopped.{IsStoppedByThreads}
 use Rattle.report_text.specs.Said.{Said}
 use Rattle.spec_files.specs.declared.fault.RunFault.{RunFault}
 use Rattle.spec_files.specs.declared.fault.RunFault.TheVariants as faults
@@ -64,6 +65,7 @@ pub record Ran (file : List ℕ) (limit : ℕ) (out_old out_new notes_old notes_
   pub begun : Begun (FileMaySay file limit) out_old out_new notes_old notes_new
   pub broken : IsTrue (has_broken answer) → FileBroken file limit out_old out_new notes_old notes_new
   pub unbroken : answer ≢ Err faults.ScheduleBroken
+  pub sure : IsStoppedByThreads answer
 
 -- it ran freely: the text of a free run that it may have goes to the output, and its notes to the errors; where it is refused, or its threads come to no end, nothing is written
 pub record FileRanFreely (file : List ℕ) (out_old out_new notes_old notes_new : Option (List ℕ)) (answer : Result (Unit {0}) RunFault) : Type 0 where

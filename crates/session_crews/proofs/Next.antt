@@ -82,7 +82,7 @@ undone_in : (orders : Orders) (event : Event) (before after : Engine) (f : Engin
     → NotActed event before (thread_faults.Engine f) after → MayMeet orders after (thread_faults.Engine f)
 undone_in orders event before after engine_faults.Memory ordered n refused = tt
 undone_in orders event before after engine_faults.Busy ordered n refused = stuck orders event before after engine_faults.Busy ordered n refused
-undone_in orders event before after engine_faults.NotYourTurn ordered n refused = stuck orders event before after engine_faults.NotYourTurn ordered n refused
+undone_in orders event before after engine_faults.NotYourTurn ordered n refused = tt
 undone_in orders event before after engine_faults.StillBlocked ordered n refused = stuck orders event before after engine_faults.StillBlocked ordered n refused
 undone_in orders event before after engine_faults.Idle ordered n refused = stuck orders event before after engine_faults.Idle ordered n refused
 undone_in orders event before after engine_faults.Spent ordered n refused = stuck orders event before after engine_faults.Spent ordered n refused
@@ -111,12 +111,22 @@ given_fault own old None none is = tt
 given_fault own old (Some f) none (inl was) = absurd cc
 given_fault own old (Some f) none (inr is) = inr (inr is)
 
+outside_of_engine : (orders : Orders) (e : Engine) (f : EngineFault) → is_outside (thread_faults.Engine f) ≡ true → MayMeet orders e (thread_faults.Engine f)
+outside_of_engine orders e engine_faults.NotYourTurn is = tt
+outside_of_engine orders e engine_faults.Memory is = absurd (true≢false (sym is))
+outside_of_engine orders e engine_faults.Busy is = absurd (true≢false (sym is))
+outside_of_engine orders e engine_faults.StillBlocked is = absurd (true≢false (sym is))
+outside_of_engine orders e engine_faults.Idle is = absurd (true≢false (sym is))
+outside_of_engine orders e engine_faults.Spent is = absurd (true≢false (sym is))
+outside_of_engine orders e engine_faults.NoSession is = absurd (true≢false (sym is))
+outside_of_engine orders e engine_faults.BlockNotAllowed is = absurd (true≢false (sym is))
+
 -- a fault from outside may be met in any engine
 pub outside : (orders : Orders) (e : Engine) (f : ThreadFault) → is_outside f ≡ true → MayMeet orders e f
 outside orders e thread_faults.ThreadRefused is = tt
 outside orders e thread_faults.Gate is = tt
 outside orders e thread_faults.Memory is = tt
-outside orders e (thread_faults.Engine f) is = absurd (true≢false (sym is))
+outside orders e (thread_faults.Engine f) is = outside_of_engine orders e f is
 outside orders e (thread_faults.SeatMismatch session) is = absurd (true≢false (sym is))
 outside orders e thread_faults.OtherRun is = absurd (true≢false (sym is))
 

@@ -1,11 +1,12 @@
 //! What a session's thread does in the runs of a crew.
 ghost use Rattle.std.specs.Prelude.{◌≡◌, true};
+ghost use Rattle.session_machine.specs.Machine.{session_of};
 ghost use Rattle.session_crews.specs.Inner.Shared.{is_outside};
 
 use crate::driven::Drives;
 use crate::shared::{Hand, Shared};
 use iso_lexer::MOST_SESSIONS;
-use session_machine::{Engine, Event};
+use session_machine::{Engine, EngineFault, Event};
 use session_seats::{
     Board, Gate, MOST_RUNS, Orderings, SeatAt, ThreadFault, admitted, bit_of, number_of, tell,
 };
@@ -18,7 +19,7 @@ pub struct Desk<'s, S> {
     pub seats: &'s mut [S],
 }
 
-/// Ends a run in a fault from outside, unless it is over.
+/// Ends a run in a fault that says nothing of what its engine was to do next, unless it is over.
 pub fn give_up<E: Engine, O: Orderings, D: Drives<E>, R: Wait>(
     rt: &R,
     run: &Mutex<Shared<E, O, D>>,
@@ -35,17 +36,7 @@ pub fn give_up<E: Engine, O: Orderings, D: Drives<E>, R: Wait>(
     board.end(place);
 }
 
-/// What the session is to do in a run, and who looks at it now.
-fn look<E: Engine, O: Orderings, D: Drives<E>, R: Wait>(
-    rt: &R,
-    run: &Mutex<Shared<E, O, D>>,
-    session: u32,
-) -> (Option<Event>, Hand) {
-    let shared = run.lock(rt);
-    (shared.due(session), shared.hand())
-}
-
-/// What the session is to do in a run, where the gate admits it. A run that is not the session's to go on with is handed on.
+/// What the session is to do in a run, where the gate admits it. A run that is not the session's to go on with ends.
 fn admitted_event<E: Engine, O: Orderings, D: Drives<E>, G: Gate, R: Wait>(
     rt: &R,
     run: &Mutex<Shared<E, O, D>>,
@@ -53,13 +44,15 @@ fn admitted_event<E: Engine, O: Orderings, D: Drives<E>, G: Gate, R: Wait>(
     gate: &G,
     place: usize,
     session: u32,
-    hands: &mut [u64],
 ) -> Option<Event> {
-    let (due, hand) = look(rt, run, session);
+    let due = run.lock(rt).due(session);
     match due {
         Some(event) if admitted(gate, event) => return due,
         Some(_) => give_up(rt, run, board, place, ThreadFault::Gate),
-        None => hand_to(board, hands, place, hand),
+        None => {
+            let fault = ThreadFault::Engine(EngineFault::NotYourTurn);
+            give_up(rt, run, board, place, fault);
+        }
     }
     None
 }
@@ -79,7 +72,7 @@ fn one_event<E: Engine, S: SeatAt<E>, O: Orderings, D: Drives<E>, R: Wait>(
     (done, shared.hand())
 }
 
-/// Asks the gate for what the session is to do in these runs. Notes who looks at one in its place.
+/// Asks the gate for what the session is to do in these runs.
 fn ask_for_each<E: Engine, O: Orderings, D: Drives<E>, G: Gate, R: Wait>(
     rt: &R,
     runs: &[Mutex<Shared<E, O, D>>],
@@ -88,14 +81,13 @@ fn ask_for_each<E: Engine, O: Orderings, D: Drives<E>, G: Gate, R: Wait>(
     session: u32,
     looks: u64,
     events: &mut [Option<Event>],
-    hands: &mut [u64],
 ) {
     for place in 0..runs.len() {
         if looks & bit_of(place) == 0 {
             continue;
         }
         if let (Some(run), Some(event)) = (runs.get(place), events.get_mut(place)) {
-            *event = admitted_event(rt, run, board, gate, place, session, hands);
+            *event = admitted_event(rt, run, board, gate, place, session);
         }
     }
 }
@@ -161,16 +153,7 @@ fn pass<E: Engine, S: SeatAt<E>, O: Orderings, D: Drives<E>, G: Gate, R: Wait>(
 ) -> u64 {
     let mut events = [None; MOST_RUNS];
     let mut hands = [0u64; MOST_SESSIONS + 1];
-    ask_for_each(
-        rt,
-        runs,
-        board,
-        gate,
-        session,
-        looks,
-        &mut events,
-        &mut hands,
-    );
+    ask_for_each(rt, runs, board, gate, session, looks, &mut events);
     do_each(rt, runs, board, seats, &mut events, &mut hands);
     board.hand_on(session, &hands);
     tell_of_each::<E, S, G>(gate, seats, &events);

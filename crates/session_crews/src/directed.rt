@@ -11,7 +11,7 @@ use crate::crew::{Desk, give_up, work};
 use crate::driven::Drives;
 use crate::joined::Joined;
 use crate::shared::{Hand, Opened, Shared};
-use session_machine::Engine;
+use session_machine::{Engine, EngineFault};
 use session_seats::{
     Board, Gate, NotStarted, Orderings, SeatAt, ThreadFault, bit_of, start_thread,
 };
@@ -163,15 +163,15 @@ fn ended_of<E: Engine, S: Drop, O: Orderings, D: Drives<E> + Drop>(
     ensures seats { shared.fault ≡ None → IfSome result.run.met (λ fault. fault ≡ ThreadFault.Memory) }
     ensures driven { result.run.late ≡ None → IsDriven (O.orders result.place) (E.engine result.run.engine).history }
     ensures quiet { result.run.late ≡ None → is_quiet_in (E.engine result.run.engine).machine ≡ true }
-    ensures told { IfSome result.run.late (λ fault. fault ≡ ThreadFault.OtherRun) }
+    ensures told { IfSome result.run.late (λ fault. fault ≡ ThreadFault.Engine EngineFault.NotYourTurn) }
     ensures may { IfSome result.run.met (MayMeet (O.orders result.place) (E.engine result.run.engine)) }
-    ensures late { result.run.late ≡ (if shared.stop && is_quiet_in shared.engine.machine then None else Some ThreadFault.OtherRun) }
+    ensures late { result.run.late ≡ (if shared.stop && is_quiet_in shared.engine.machine then None else Some (ThreadFault.Engine EngineFault.NotYourTurn)) }
 {
     let (place, engine, stop, fault) = shared.into_parts();
     let late = if stop && engine.quiet() {
         None
     } else {
-        Some(ThreadFault::OtherRun)
+        Some(ThreadFault::Engine(EngineFault::NotYourTurn))
     };
     let (seats, refused) = match seats {
         Ok(seats) => (seats, None),
@@ -237,7 +237,7 @@ fn ended_of_each<E: Engine, S: Drop, O: Orderings, D: Drives<E> + Drop>(
     ensures count { length result.items ≡ length runs.items }
     ensures quiet { All (λ over. over.run.late ≡ None → is_quiet_in (E.engine over.run.engine).machine ≡ true) result.items }
     ensures driven { All (λ over. over.run.late ≡ None → IsDriven (O.orders over.place) (E.engine over.run.engine).history) result.items }
-    ensures late { All (λ over. IfSome over.run.late (λ fault. fault ≡ ThreadFault.OtherRun)) result.items }
+    ensures late { All (λ over. IfSome over.run.late (λ fault. fault ≡ ThreadFault.Engine EngineFault.NotYourTurn)) result.items }
     ensures may { All (λ over. IfSome over.run.met (MayMeet (O.orders over.place) (E.engine over.run.engine))) result.items }
 {
     for run in runs {
@@ -302,7 +302,7 @@ fn run_in<
     ensures count { length result.items ≡ length opened.items }
     ensures quiet { All (λ over. over.run.late ≡ None → is_quiet_in (E.engine over.run.engine).machine ≡ true) result.items }
     ensures driven { All (λ over. over.run.late ≡ None → IsDriven (O.orders over.place) (E.engine over.run.engine).history) result.items }
-    ensures late { All (λ over. IfSome over.run.late (λ fault. fault ≡ ThreadFault.OtherRun)) result.items }
+    ensures late { All (λ over. IfSome over.run.late (λ fault. fault ≡ ThreadFault.Engine EngineFault.NotYourTurn)) result.items }
     ensures may { All (λ over. IfSome over.run.met (MayMeet (O.orders over.place) (E.engine over.run.engine))) result.items }
 {
     let Room {
@@ -344,7 +344,7 @@ pub fn run_crew<
     ensures count { IfOk result (λ ended. length ended.items ≡ length opened.items) }
     ensures quiet { IfOk result (λ ended. All (λ over. over.run.late ≡ None → is_quiet_in (E.engine over.run.engine).machine ≡ true) ended.items) }
     ensures driven { IfOk result (λ ended. All (λ over. over.run.late ≡ None → IsDriven (O.orders over.place) (E.engine over.run.engine).history) ended.items) }
-    ensures late { IfOk result (λ ended. All (λ over. IfSome over.run.late (λ fault. fault ≡ ThreadFault.OtherRun)) ended.items) }
+    ensures late { IfOk result (λ ended. All (λ over. IfSome over.run.late (λ fault. fault ≡ ThreadFault.Engine EngineFault.NotYourTurn)) ended.items) }
     ensures may { IfOk result (λ ended. All (λ over. IfSome over.run.met (MayMeet (O.orders over.place) (E.engine over.run.engine))) ended.items) }
 {
     let room = room_for::<E, S, O, D>(alloc, sessions, opened.len())?;

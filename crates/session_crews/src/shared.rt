@@ -160,14 +160,18 @@ impl<E: Engine, O: Orderings, D: Drives<E>> Shared<E, O, D> {
         }
     }
 
-    /// Does the event, where it is the next one of a run that goes on. Says whether it was done.
+    /// Does the event, unless the run is over. One that comes out of turn ends the run. Says whether it was done.
     pub fn perform<S: SeatAt<E>>(&mut self, seat: &mut S, event: Event) -> bool
         requires { session_of event ≡ (S.seat seat.old).session }
         ensures session { (S.seat seat.new).session ≡ (S.seat seat.old).session }
         ensures first { IfSome self.old.fault (λ fault. self.new.fault ≡ Some fault) }
-        ensures same { result ≡ false → self.new.fault ≡ None → self.new ≡ self.old }
+        ensures over { result ≡ false → (self.new.stop || is_some self.new.fault) ≡ true }
     {
-        if self.over() || !self.is_next(event) {
+        if self.over() {
+            return false;
+        }
+        if !self.is_next(event) {
+            self.note(ThreadFault::Engine(EngineFault::NotYourTurn));
             return false;
         }
         let acted = seat.act(&mut self.engine, event);

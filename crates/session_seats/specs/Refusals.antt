@@ -56,17 +56,19 @@ pub record CannotGoOn (orders : Orders) (blocks : Blocks) (count : ℕ) (mode : 
   pub due : next_event (turn_in state) (orders items) ≡ Some event
   pub undone : IsUndone blocks count mode state event fault
 
--- what the threads may meet in a run, as the engine stands at its end: want of memory, a thread that isn't started, a gate, or an event that can't be done
+-- what the threads may meet in a run, as the engine stands at its end: want of memory, a thread that isn't started, a gate, an event that comes out of turn, or one that can't be done
 abbrev pub MayMeet : Orders → Engine → ThreadFault → Type 0
 MayMeet orders e thread_faults.ThreadRefused = Unit {0}
 MayMeet orders e thread_faults.Gate = Unit {0}
 MayMeet orders e thread_faults.Memory = Unit {0}
 MayMeet orders e (thread_faults.Engine engine_faults.Memory) = Unit {0}
+MayMeet orders e (thread_faults.Engine engine_faults.NotYourTurn) = Unit {0}
 MayMeet orders e (thread_faults.Engine fault) = IsStuck orders e fault
 MayMeet orders e _ = ⊥
 
--- what may stop a directed run: that, or seats or a run that the threads have left otherwise than they should
+-- what may stop a directed run: that, or seats or a run that the threads have left otherwise than they should; a run that they leave before its end is told as out of turn too
 abbrev pub MayStop : Orders → Blocks → ℕ → ThreadFault → Type 0
 MayStop orders blocks count (thread_faults.Engine engine_faults.Memory) = Unit {0}
+MayStop orders blocks count (thread_faults.Engine engine_faults.NotYourTurn) = Unit {0}
 MayStop orders blocks count (thread_faults.Engine fault) = CannotGoOn orders blocks count Directed fault
 MayStop orders blocks count _ = Unit {0}

@@ -15,9 +15,9 @@ pub enum ThreadFault {
     SeatMismatch { session: u32 },
     /// The gate did not admit an event, as often as it was asked.
     Gate,
-    /// The engine refused an event, or a free run ended before its end had come.
+    /// The engine refused an event, or a run ended before its end had come.
     Engine(EngineFault),
-    /// What the threads have left is another run than was handed in, or one that hasn't come to its end.
+    /// The engine is another than was handed in.
     OtherRun,
     /// Memory was refused.
     Memory,

@@ -1,6 +1,6 @@
 -- What stopped a run may stop it.
-use Rattle.std.proofs.Common.{◌≡◌, ◌⊎◌, inl, inr, ℕ, List, refl, sym, subst, Option, Some, None}
-use Rattle.std.specs.Prelude.{IfErr, IfSome, Result, Ok, Err}
+use Rattle.std.proofs.Common.{◌≡◌, ◌∙◌, ℕ, List, Bool, true, false, refl, sym, ap, subst, Option, Some, None}
+use Rattle.std.specs.Prelude.{IfErr, IfSome, Result, Ok, Err, if◌then◌else◌}
 use Rattle.session_machine.specs.declared.event.Mode.{Mode}
 use Rattle.session_machine.specs.declared.event.Mode.TheVariants.{Directed}
 use Rattle.session_machine.specs.declared.fault.EngineFault.{EngineFault}
@@ -14,7 +14,7 @@ use Rattle.session_seats.specs.Orders.{Orders}
 use Rattle.session_seats.specs.Refusals.{CannotGoOn, IsStuck, IsUndone, MayMeet, MayStop}
 use Rattle.session_seats.specs.Seats.{SeatOf}
 use Rattle.session_threads.specs.Seats.{IsMisfit}
-use Rattle.session_threads.specs.Inner.Against.{IsAgainst, another, before, behind, seated}
+use Rattle.session_threads.specs.Inner.Met.{is_refusal, told_of, told_of_another}
 
 leads_to : (e : Engine) (machine : Option Machine) (state : Machine) → machine ≡ Some state → IfSome machine (λ m. Run e.blocks e.mode (opening e.count) e.history m) → Run e.blocks e.mode (opening e.count) e.history state
 leads_to e machine state live leads = subst (λ (x : Option Machine). IfSome x (λ m. Run e.blocks e.mode (opening e.count) e.history m)) live leads
@@ -42,7 +42,7 @@ module _ (orders : Orders) (blocks : Blocks) (count : ℕ) (e : Engine) (of : Is
   engine_may : (fault : EngineFault) → MayMeet orders e (thread_faults.Engine fault) → MayStop orders blocks count (thread_faults.Engine fault)
   engine_may engine_faults.Memory may = tt
   engine_may engine_faults.Busy may = cannot_go_on orders blocks count e engine_faults.Busy of leads may
-  engine_may engine_faults.NotYourTurn may = cannot_go_on orders blocks count e engine_faults.NotYourTurn of leads may
+  engine_may engine_faults.NotYourTurn may = tt
   engine_may engine_faults.StillBlocked may = cannot_go_on orders blocks count e engine_faults.StillBlocked of leads may
   engine_may engine_faults.Idle may = cannot_go_on orders blocks count e engine_faults.Idle of leads may
   engine_may engine_faults.Spent may = cannot_go_on orders blocks count e engine_faults.Spent of leads may
@@ -57,43 +57,76 @@ module _ (orders : Orders) (blocks : Blocks) (count : ℕ) (e : Engine) (of : Is
   met_may thread_faults.OtherRun may = tt
   met_may (thread_faults.SeatMismatch session) may = tt
 
-other_may : (orders : Orders) (blocks : Blocks) (count : ℕ) (fault : ThreadFault) → fault ≡ thread_faults.OtherRun → MayStop orders blocks count fault
-other_may orders blocks count fault is = subst (MayStop orders blocks count) (sym is) tt
+-- whose engine refused nothing, a fault may stop any run
+of_another : (orders : Orders) (blocks : Blocks) (count : ℕ) (fault : ThreadFault) → MayStop orders blocks count (if is_refusal fault then thread_faults.OtherRun else fault)
+of_another orders blocks count (thread_faults.Engine engine_faults.Memory) = tt
+of_another orders blocks count (thread_faults.Engine engine_faults.NotYourTurn) = tt
+of_another orders blocks count (thread_faults.Engine engine_faults.Busy) = tt
+of_another orders blocks count (thread_faults.Engine engine_faults.StillBlocked) = tt
+of_another orders blocks count (thread_faults.Engine engine_faults.Idle) = tt
+of_another orders blocks count (thread_faults.Engine engine_faults.Spent) = tt
+of_another orders blocks count (thread_faults.Engine engine_faults.NoSession) = tt
+of_another orders blocks count (thread_faults.Engine engine_faults.BlockNotAllowed) = tt
+of_another orders blocks count thread_faults.ThreadRefused = tt
+of_another orders blocks count thread_faults.Gate = tt
+of_another orders blocks count thread_faults.Memory = tt
+of_another orders blocks count thread_faults.OtherRun = tt
+of_another orders blocks count (thread_faults.SeatMismatch session) = tt
 
--- what is against closing a run may stop it
-pub against_may : (orders : Orders) (blocks : Blocks) (count : ℕ) (e : Engine) (met late : Option ThreadFault) (fault : ThreadFault)
-    → IfSome e.machine (λ m. Run e.blocks e.mode (opening e.count) e.history m) → IfSome met (λ f. (f ≡ thread_faults.OtherRun) ⊎ MayMeet orders e f) → IfSome late (λ f. f ≡ thread_faults.OtherRun)
-    → IsAgainst (IsOf e blocks count Directed) met late fault → MayStop orders blocks count fault
-against_may orders blocks count e met late fault leads may seen (another is) = other_may orders blocks count fault is
-against_may orders blocks count e met late fault leads may seen (before of is) = by (subst (λ (m : Option ThreadFault). IfSome m (λ f. (f ≡ thread_faults.OtherRun) ⊎ MayMeet orders e f)) is may) where
-  by : (fault ≡ thread_faults.OtherRun) ⊎ MayMeet orders e fault → MayStop orders blocks count fault
-  by (inl other) = other_may orders blocks count fault other
-  by (inr met) = met_may orders blocks count e of leads fault met
-against_may orders blocks count e met late fault leads may seen (behind is) =
-    other_may orders blocks count fault (subst (λ (l : Option ThreadFault). IfSome l (λ f. f ≡ thread_faults.OtherRun)) is seen)
-against_may orders blocks count e met late fault leads may seen (seated session is) = subst (MayStop orders blocks count) (sym is) tt
+another_may : (orders : Orders) (blocks : Blocks) (count : ℕ) (met : Option ThreadFault) → IfSome (told_of_another met) (MayStop orders blocks count)
+another_may orders blocks count None = tt
+another_may orders blocks count (Some fault) = of_another orders blocks count fault
 
--- what may be met by the orders of its place may be met by these
-pub met_here : (orders own : Orders) (e : Engine) (met : Option ThreadFault) → own ≡ orders → IfSome met (MayMeet own e) → IfSome met (λ f. (f ≡ thread_faults.OtherRun) ⊎ MayMeet orders e f)
-met_here orders own e None same may = tt
-met_here orders own e (Some f) same may = inr (subst (λ (o : Orders). MayMeet o e f) same may)
+own_may : (orders : Orders) (blocks : Blocks) (count : ℕ) (e : Engine) (met : Option ThreadFault) → IsOf e blocks count Directed
+    → IfSome e.machine (λ m. Run e.blocks e.mode (opening e.count) e.history m) → IfSome met (MayMeet orders e) → IfSome met (MayStop orders blocks count)
+own_may orders blocks count e None of leads may = tt
+own_may orders blocks count e (Some fault) of leads may = met_may orders blocks count e of leads fault may
 
--- and so may that it stands at another place
-pub met_elsewhere : (orders : Orders) (e : Engine) (met : Option ThreadFault) → met ≡ Some thread_faults.OtherRun → IfSome met (λ f. (f ≡ thread_faults.OtherRun) ⊎ MayMeet orders e f)
-met_elsewhere orders e met is = subst (λ (m : Option ThreadFault). IfSome m (λ f. (f ≡ thread_faults.OtherRun) ⊎ MayMeet orders e f)) (sym is) (inl refl)
+-- what a run is told to have met may stop it
+pub told_may : (orders own : Orders) (blocks : Blocks) (count : ℕ) (e : Engine) (is_own : Bool) (met : Option ThreadFault)
+    → (is_own ≡ true → (own ≡ orders) × IsOf e blocks count Directed) → IfSome e.machine (λ m. Run e.blocks e.mode (opening e.count) e.history m)
+    → IfSome met (MayMeet own e) → IfSome (told_of is_own met) (MayStop orders blocks count)
+told_may orders own blocks count e false met is leads may = another_may orders blocks count met
+told_may orders own blocks count e true met is leads may =
+    let of = is refl in
+    own_may orders blocks count e met of.1 leads (subst (λ (o : Orders). IfSome met (MayMeet o e)) of.0 may)
 
--- a session's seats that don't fit are against closing a run
-pub seats_against : (is_of : Type 0) (met late : Option ThreadFault) (engine : Engine) (seats : List SeatOf) (refused : Option ThreadFault)
-    → IfSome refused (λ f. (s : ℕ) × (f ≡ thread_faults.SeatMismatch s) × IsMisfit engine seats s) → IfSome refused (IsAgainst is_of met late)
-seats_against is_of met late engine seats None is = tt
-seats_against is_of met late engine seats (Some f) is = seated is.0 is.1
+-- what is told of a run that isn't the one that was handed in
+another_told : (met : Option ThreadFault) → told_of_another met ≡ None → ⊥
+another_told None is = absurd cc
+another_told (Some fault) is = absurd cc
+
+pub told_of_own : (is_own : Bool) (met : Option ThreadFault) → told_of is_own met ≡ None → is_own ≡ true
+told_of_own true met is = refl
+told_of_own false met is = absurd (another_told met is)
+
+seat_may : (orders : Orders) (blocks : Blocks) (count session : ℕ) (fault : ThreadFault) → fault ≡ thread_faults.SeatMismatch session → MayStop orders blocks count fault
+seat_may orders blocks count session fault is = subst (MayStop orders blocks count) (sym is) tt
+
+late_may : (orders : Orders) (blocks : Blocks) (count : ℕ) (fault : ThreadFault) → fault ≡ thread_faults.Engine engine_faults.NotYourTurn → MayStop orders blocks count fault
+late_may orders blocks count fault is = subst (MayStop orders blocks count) (sym is) tt
+
+told_err : {A : Type 0} (P : ThreadFault → Type 0) (fault : ThreadFault) (result : Result A ThreadFault) → result ≡ Err fault → P fault → IfErr result P
+told_err P fault result is may = subst (λ r. IfErr r P) (sym is) may
 
 -- so the answer is one that may stop the run
-pub stopped_by : {A : Type 0} (orders : Orders) (blocks : Blocks) (count : ℕ) (was e : Engine) (met seen late : Option ThreadFault) (result : Result A ThreadFault)
-    → e ≡ was → late ≡ seen → IfSome was.machine (λ m. Run was.blocks was.mode (opening was.count) was.history m)
-    → IfSome met (λ f. (f ≡ thread_faults.OtherRun) ⊎ MayMeet orders was f) → IfSome seen (λ f. f ≡ thread_faults.OtherRun)
-    → IfErr result (IsAgainst (IsOf e blocks count Directed) met late) → IfErr result (MayStop orders blocks count)
-stopped_by {A = A} orders blocks count was e met seen late (Ok closed) same kept leads may told against = tt
-stopped_by {A = A} orders blocks count was e met seen late (Err fault) same kept leads may told against =
-    against_may orders blocks count was met seen fault leads may told
-    (subst (λ (l : Option ThreadFault). IsAgainst (IsOf was blocks count Directed) met l fault) kept (subst (λ (x : Engine). IsAgainst (IsOf x blocks count Directed) met late fault) same against))
+pub stopped_by : {A : Type 0} (orders : Orders) (blocks : Blocks) (count : ℕ) (e : Engine) (seats : List SeatOf) (met late : Option ThreadFault) (result : Result A ThreadFault)
+    → IfSome met (MayStop orders blocks count) → (met ≡ None → IsOf e blocks count Directed) → IfSome late (λ f. f ≡ thread_faults.Engine engine_faults.NotYourTurn)
+    → IfSome met (λ f. result ≡ Err f) → (met ≡ None → IsOf e blocks count Directed → IfSome late (λ f. result ≡ Err f))
+    → (met ≡ None → IsOf e blocks count Directed → late ≡ None → IfErr result (λ f. (s : ℕ) × (f ≡ thread_faults.SeatMismatch s) × IsMisfit e seats s))
+    → IfErr result (MayStop orders blocks count)
+stopped_by orders blocks count e seats (Some fault) late result may of told met behind seated = told_err (MayStop orders blocks count) fault result met may
+stopped_by orders blocks count e seats None (Some fault) result may of told met behind seated = told_err (MayStop orders blocks count) fault result (behind refl (of refl)) (late_may orders blocks count fault told)
+stopped_by {A = A} orders blocks count e seats None None result may of told met behind seated = by_seats result (seated refl (of refl) refl) where
+  by_seats : (r : Result A ThreadFault) → IfErr r (λ f. (s : ℕ) × (f ≡ thread_faults.SeatMismatch s) × IsMisfit e seats s) → IfErr r (MayStop orders blocks count)
+  by_seats (Ok closed) is = tt
+  by_seats (Err fault) is = seat_may orders blocks count is.0 fault is.1
+
+-- a fault that was met, but not what an engine refused, is told whatever run it is
+pub met_told : {A : Type 0} (is_own : Bool) (met told : Option ThreadFault) (result : Result A ThreadFault) → told ≡ told_of is_own met
+    → IfSome told (λ f. result ≡ Err f) → IfSome met (λ f. is_refusal f ≡ false → result ≡ Err f)
+met_told is_own None told result is all = tt
+met_told true (Some f) told result is all = λ _. subst (λ (m : Option ThreadFault). IfSome m (λ f. result ≡ Err f)) is all
+met_told false (Some f) told result is all = λ no.
+    let same : told ≡ Some f = is ∙ ap (λ (b : Bool). Some (if b then thread_faults.OtherRun else f)) no in
+    subst (λ (m : Option ThreadFault). IfSome m (λ f. result ≡ Err f)) same all

@@ -7,7 +7,6 @@ ghost use Rattle.session_machine.specs.Engine.{opened};
 ghost use Rattle.session_seats.specs.Seats.{empty_seats};
 ghost use Rattle.session_core.specs.Engines.{IsOf};
 ghost use Rattle.session_threads.specs.Seats.{AllFit, IsMisfit};
-ghost use Rattle.session_threads.specs.Inner.Against.{IsAgainst};
 
 use crate::held::Held;
 use row_versions::Versions;
@@ -116,22 +115,21 @@ fn seat_fault<V: Versions>(
     }
 }
 
-/// The end of a run: the seats beside an engine that was opened over these blocks and sessions and in this mode. Another run
-/// comes first, then a fault that was met, then what was seen after the joins, then the seats.
+/// The end of a run: the seats beside an engine that was opened over these blocks and sessions and in this mode. A fault that
+/// was met comes first, then another run, then what was seen after the joins, then the seats.
 pub fn end_of<'a, 't, V: Versions>(
     run: Joined<Held<'a, 't, V>, Seat<'t>>,
     blocks: &[Block<'_>],
     sessions: u32,
     mode: Mode,
 ) -> Result<Closed<'a, 't, V>, ThreadFault>
-    ensures other_run { ¬ (IsOf run.entry.engine.state (blocks_of blocks.now) sessions mode) → result ≡ Err ThreadFault.OtherRun }
-    ensures met { IsOf run.entry.engine.state (blocks_of blocks.now) sessions mode → IfSome run.entry.met (λ fault. result ≡ Err fault) }
+    ensures met { IfSome run.entry.met (λ fault. result ≡ Err fault) }
+    ensures other_run { run.entry.met ≡ None → ¬ (IsOf run.entry.engine.state (blocks_of blocks.now) sessions mode) → result ≡ Err ThreadFault.OtherRun }
     ensures late { run.entry.met ≡ None → IsOf run.entry.engine.state (blocks_of blocks.now) sessions mode → IfSome run.entry.late (λ fault. result ≡ Err fault) }
     ensures seats { run.entry.met ≡ None → IsOf run.entry.engine.state (blocks_of blocks.now) sessions mode → run.entry.late ≡ None
         → IfErr result (λ e. (s : ℕ) × (e ≡ ThreadFault.SeatMismatch s) × IsMisfit run.entry.engine.state run.entry.seats.items s) }
     ensures ok { IfOk result (λ c. IsOf run.entry.engine.state (blocks_of blocks.now) sessions mode × (run.entry.met ≡ None) × (run.entry.late ≡ None)
         × (c ≡ record { state = run.entry.engine.state; seats = run.entry.seats.items })) }
-    ensures against { IfErr result (IsAgainst (IsOf run.entry.engine.state (blocks_of blocks.now) sessions mode) run.entry.met run.entry.late) }
 {
     let Joined {
         engine,
@@ -153,17 +151,16 @@ fn end_fault<V: Versions>(
     late: Option<ThreadFault>,
     seats: &[Seat<'_>],
 ) -> Option<ThreadFault>
-    ensures other_run { ¬ (IsOf engine.now (blocks_of blocks.now) sessions mode) → result ≡ Some ThreadFault.OtherRun }
-    ensures met { IsOf engine.now (blocks_of blocks.now) sessions mode → IfSome met (λ fault. result ≡ Some fault) }
+    ensures met { IfSome met (λ fault. result ≡ Some fault) }
+    ensures other_run { met ≡ None → ¬ (IsOf engine.now (blocks_of blocks.now) sessions mode) → result ≡ Some ThreadFault.OtherRun }
     ensures late { met ≡ None → IsOf engine.now (blocks_of blocks.now) sessions mode → IfSome late (λ fault. result ≡ Some fault) }
     ensures seats { met ≡ None → IsOf engine.now (blocks_of blocks.now) sessions mode → late ≡ None
         → IfSome result (λ e. (s : ℕ) × (e ≡ ThreadFault.SeatMismatch s) × IsMisfit engine.now seats.now s) }
     ensures fit { IfNone result (IsOf engine.now (blocks_of blocks.now) sessions mode × (met ≡ None) × (late ≡ None) × AllFit engine.now seats.now) }
-    ensures against { IfSome result (IsAgainst (IsOf engine.now (blocks_of blocks.now) sessions mode) met late) }
 {
     match (met, late) {
-        _ if !engine.is_of(blocks, sessions, mode) => Some(ThreadFault::OtherRun),
         (Some(fault), _) => Some(fault),
+        _ if !engine.is_of(blocks, sessions, mode) => Some(ThreadFault::OtherRun),
         (None, Some(fault)) => Some(fault),
         (None, None) => seat_fault(engine, seats),
     }

@@ -1,5 +1,5 @@
 //! Runs with a thread for each session, in which a driver says what is given to whom.
-ghost use Rattle.std.specs.Prelude.{◌≡◌, ◌≤◌, ◌∷◌, All, List, [], None, Ok, Err, true, IfOk, IfErr, IfSome, length, map};
+ghost use Rattle.std.specs.Prelude.{◌≡◌, ◌≤◌, ◌∷◌, All, List, [], None, Ok, Err, true, false, IfOk, IfErr, IfSome, length, map};
 ghost use Rattle.iso_lexer.specs.declared.limits.TheConstants.{MOST_SESSIONS};
 ghost use Rattle.row_versions.specs.Log.{empty_content};
 ghost use Rattle.sql_blocks.specs.Blocks.{blocks_of};
@@ -8,6 +8,7 @@ ghost use Rattle.session_core.specs.Engines.{IsOf};
 ghost use Rattle.session_seats.specs.Orders.{IsDriven};
 ghost use Rattle.session_seats.specs.Refusals.{MayMeet, MayStop};
 ghost use Rattle.session_threads.specs.Crews.{RanBy, RanByEach};
+ghost use Rattle.session_threads.specs.Inner.Met.{is_refusal, told_of};
 ghost use Rattle.session_threads.specs.Inner.Places.{AreFrom, IsRoomFor, RanFrom};
 
 use crate::closing::{Closed, end_of};
@@ -16,7 +17,7 @@ use crate::held::Held;
 use row_versions::Versions;
 use session_core::EngineState;
 use session_crews::{Ended, Opened, run_crew};
-use session_machine::Mode;
+use session_machine::{EngineFault, Mode};
 use session_seats::{Gate, Orderings, Seat, ThreadFault};
 use sql_blocks::Block;
 use std::alloc::{AllocError, Global};
@@ -64,7 +65,31 @@ fn open_each<'a, 't, V: Versions, O: Orderings, D: Driver<V> + Drop>(
     Ok(all)
 }
 
-/// The end of a run that stands at this place.
+/// Whether the engine refused what was next for it.
+fn is_refusal(fault: ThreadFault) -> bool
+    ensures { result ≡ is_refusal fault }
+{
+    match fault {
+        ThreadFault::Engine(EngineFault::Memory) => false,
+        ThreadFault::Engine(EngineFault::NotYourTurn) => false,
+        ThreadFault::Engine(_) => true,
+        _ => false,
+    }
+}
+
+/// What a run is told to have met, where that is the run that was handed in or where it is another.
+fn told_of(is_own: bool, met: Option<ThreadFault>) -> Option<ThreadFault>
+    ensures { result ≡ told_of is_own met }
+{
+    match met {
+        _ if is_own => met,
+        Some(fault) if !is_refusal(fault) => met,
+        _ => Some(ThreadFault::OtherRun),
+    }
+}
+
+/// The end of a run that stands at this place. What its engine refused is told where the run is the one that was handed in; any
+/// other fault that was met comes before that it is another.
 fn close_one<'a, 't, V: Versions, O: Orderings>(
     over: Ended<Held<'a, 't, V>, Seat<'t>>,
     place: usize,
@@ -73,10 +98,12 @@ fn close_one<'a, 't, V: Versions, O: Orderings>(
 ) -> Result<Closed<'a, 't, V>, ThreadFault>
     requires quiet { over.run.late ≡ None → is_quiet_in over.run.engine.state.machine ≡ true }
     requires driven { over.run.late ≡ None → IsDriven (O.orders over.place) over.run.engine.state.history }
-    requires late { IfSome over.run.late (λ fault. fault ≡ ThreadFault.OtherRun) }
+    requires late { IfSome over.run.late (λ fault. fault ≡ ThreadFault.Engine EngineFault.NotYourTurn) }
     requires may { IfSome over.run.met (MayMeet (O.orders over.place) over.run.engine.state) }
-    ensures other_place { ¬ (over.entry.place ≡ place) → IfErr result (λ fault. fault ≡ ThreadFault.OtherRun) }
-    ensures met { over.entry.place ≡ place → IsOf over.entry.run.engine.state (blocks_of blocks.now) sessions Mode.Directed → IfSome over.entry.run.met (λ fault. result ≡ Err fault) }
+    ensures met { IfSome over.entry.run.met (λ fault. is_refusal fault ≡ false → result ≡ Err fault) }
+    ensures refused { over.entry.place ≡ place → IsOf over.entry.run.engine.state (blocks_of blocks.now) sessions Mode.Directed → IfSome over.entry.run.met (λ fault. result ≡ Err fault) }
+    ensures other_place { over.entry.run.met ≡ None → ¬ (over.entry.place ≡ place) → result ≡ Err ThreadFault.OtherRun }
+    ensures other_run { over.entry.run.met ≡ None → ¬ (IsOf over.entry.run.engine.state (blocks_of blocks.now) sessions Mode.Directed) → result ≡ Err ThreadFault.OtherRun }
     ensures ran { IfOk result (RanBy (blocks_of blocks.now) sessions (O.orders place)) }
     ensures stopped { IfErr result (MayStop (O.orders place) (blocks_of blocks.now) sessions) }
 {
@@ -85,9 +112,8 @@ fn close_one<'a, 't, V: Versions, O: Orderings>(
         mut run,
     } = over;
     run.engine.state.history();
-    if own != place {
-        run.met = Some(ThreadFault::OtherRun);
-    }
+    let is_own = own == place && run.engine.state.is_of(blocks, sessions, Mode::Directed);
+    run.met = told_of(is_own, run.met);
     end_of(run, blocks, sessions, Mode::Directed)
 }
 
@@ -100,7 +126,7 @@ fn close_each<'a, 't, V: Versions, O: Orderings>(
 ) -> Vec<Result<Closed<'a, 't, V>, ThreadFault>>
     requires quiet { All (λ over. over.run.late ≡ None → is_quiet_in over.run.engine.state.machine ≡ true) ended.items }
     requires driven { All (λ over. over.run.late ≡ None → IsDriven (O.orders over.place) over.run.engine.state.history) ended.items }
-    requires late { All (λ over. IfSome over.run.late (λ fault. fault ≡ ThreadFault.OtherRun)) ended.items }
+    requires late { All (λ over. IfSome over.run.late (λ fault. fault ≡ ThreadFault.Engine EngineFault.NotYourTurn)) ended.items }
     requires may { All (λ over. IfSome over.run.met (MayMeet (O.orders over.place) over.run.engine.state)) ended.items }
     requires room { IsRoomFor (length ended.items) closed }
     ensures count { length result.items ≡ length ended.entry.items }
@@ -137,7 +163,7 @@ fn run_opened<
     ensures count { IfOk result (λ ended. length ended.items ≡ length runs.items) }
     ensures quiet { IfOk result (λ ended. All (λ over. over.run.late ≡ None → is_quiet_in over.run.engine.state.machine ≡ true) ended.items) }
     ensures driven { IfOk result (λ ended. All (λ over. over.run.late ≡ None → IsDriven (O.orders over.place) over.run.engine.state.history) ended.items) }
-    ensures late { IfOk result (λ ended. All (λ over. IfSome over.run.late (λ fault. fault ≡ ThreadFault.OtherRun)) ended.items) }
+    ensures late { IfOk result (λ ended. All (λ over. IfSome over.run.late (λ fault. fault ≡ ThreadFault.Engine EngineFault.NotYourTurn)) ended.items) }
     ensures may { IfOk result (λ ended. All (λ over. IfSome over.run.met (MayMeet (O.orders over.place) over.run.engine.state)) ended.items) }
 {
     let opened = open_each::<V, O, D>(alloc, blocks, sessions, runs)?;

@@ -1,6 +1,7 @@
 -- A draft that is written at its turn, as if its permutation had been written then.
 use Rattle.std.proofs.Common.{◌≡◌, ◌≢◌, ◌⊎◌, inl, inr, ℕ, Bool, true, false, List, [], ◌∷◌, Option, Result, Ok, Err, refl, sym, ap, subst, ◌∙◌, arith}
-use Rattle.std.specs.Prelude.{IsTrue, IfErr}
+use Rattle.std.specs.Prelude.{Contains, IsTrue, IfErr}
+use Rattle.std.proofs.lemmas.List.Elements.{Contains-append_left, Contains-append_right, Contains-push}
 use Rattle.std.specs.List.{All}
 use Rattle.std.specs.Io.KnownBytes.{Appends}
 use Rattle.iso_lexer.specs.Devices.{page_text, PutsFront}
@@ -12,9 +13,11 @@ use Rattle.spec_files.specs.declared.fault.RunFault.{RunFault}
 use Rattle.spec_files.specs.declared.fault.RunFault.TheVariants as faults
 use Rattle.spec_files.specs.Begun.{Begun, none, fronts, OneSays, report}
 use Rattle.spec_files.proofs.Beginning.{notes_behind}
+use Rattle.spec_files.specs.Complete.{HasItsBlocks, HasItsSteps}
 use Rattle.spec_files.specs.Drafts.{IsDraft, entries_of}
 use Rattle.spec_files.specs.Inner.Drafts.{to_come}
 use Rattle.spec_files.specs.Runs.{has_ended, has_broken, is_of_one, IsOneTold}
+use Rattle.spec_files.specs.Stopped.{IsStoppedByThreads}
 
 -- it answers as the run did, or that a device failed
 abbrev AnswersSo : Draft → Result (Unit {0}) RunFault → Type 0
@@ -82,6 +85,20 @@ draft_unbroken spec blocks draft result is (inr failed) broken = absurd (let it 
 pub draft_kinds : (spec : SpecTree) (blocks : Blocks) (draft : Draft) (result : Result (Unit {0}) RunFault) → IsDraft spec blocks draft → AnswersSo draft result → IfErr result (λ e. is_of_one e ≡ true)
 draft_kinds spec blocks draft result is (inl same) = subst (λ (r : Result (Unit {0}) RunFault). IfErr r (λ e. is_of_one e ≡ true)) (sym same) is.kinds
 draft_kinds spec blocks draft result is (inr failed) = subst (λ (r : Result (Unit {0}) RunFault). IfErr r (λ e. is_of_one e ≡ true)) (sym failed) refl
+
+pub draft_sure : (spec : SpecTree) (blocks : Blocks) (draft : Draft) (result : Result (Unit {0}) RunFault) → IsDraft spec blocks draft → AnswersSo draft result
+    → HasItsBlocks spec blocks → HasItsSteps spec (entries_of draft) → IsStoppedByThreads result
+draft_sure spec blocks draft result is (inl same) there steps = subst IsStoppedByThreads (sym same) (is.sure there steps)
+draft_sure spec blocks draft result is (inr failed) there steps = subst IsStoppedByThreads (sym failed) (λ broken. absurd (let it : false ≡ true = broken in cc))
+
+-- the permutation whose turn it is, and those behind it, are among all
+pub is_among : (all more rest : List (List EntryTree)) (entries : List EntryTree) → ((p : List EntryTree) → Contains more p → Contains all p) → more ≡ entries ∷ rest → Contains all entries
+is_among all more rest entries among next =
+    among entries (subst (λ (ps : List (List EntryTree)). Contains ps entries) (sym next) (Contains-append_left (entries ∷ []) rest entries (Contains-push [] entries)))
+
+pub rest_among : (all more rest : List (List EntryTree)) (entries : List EntryTree) → ((p : List EntryTree) → Contains more p → Contains all p) → more ≡ entries ∷ rest
+    → (p : List EntryTree) → Contains rest p → Contains all p
+rest_among all more rest entries among next p is = among p (subst (λ (ps : List (List EntryTree)). Contains ps p) (sym next) (Contains-append_right (entries ∷ []) rest p is))
 
 -- before the first turn
 pub no_drafts : (spec : SpecTree) (blocks : Blocks) (drafts : List Draft) → drafts ≡ [] → All (IsDraft spec blocks) drafts

@@ -10,6 +10,8 @@ pub mod Plans
 pub mod Written
 pub mod Broken
 pub mod Runs
+pub mod Complete
+pub mod Stopped
 pub mod FreeRuns
 pub mod Begun
 pub mod Drafts

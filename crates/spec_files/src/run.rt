@@ -1,6 +1,6 @@
 //! Runs the permutations of a spec file, by what runs one of them.
 
-ghost use Rattle.std.specs.Prelude.{◌≡◌, ◌≢◌, ◌≤◌, ◌||◌, length, Ok, Err, true, false, IsTrue, IsUtf8, IfErr, IsErrOf};
+ghost use Rattle.std.specs.Prelude.{◌≡◌, ◌≢◌, ◌≤◌, ◌||◌, ℕ, List, length, Ok, Err, true, false, IsTrue, IsUtf8, IfErr, IsErrOf};
 ghost use Rattle.iso_lexer.specs.declared.limits.TheConstants.{LONGEST_FILE};
 ghost use Rattle.sql_blocks.specs.Blocks.{blocks_of};
 ghost use Rattle.spec_parser.specs.Trees.{spec_view};
@@ -9,6 +9,8 @@ ghost use Rattle.permutation_lists.specs.Permutations.{permutations_of};
 ghost use Rattle.spec_files.specs.Begun.{Begun, RunSays, FileMaySay};
 ghost use Rattle.spec_files.specs.Runners.{RunsEach};
 ghost use Rattle.spec_files.specs.Broken.{RunBroken, FileBroken};
+ghost use Rattle.spec_files.specs.Complete.{HasItsBlocks, EachHasItsSteps, IsComplete};
+ghost use Rattle.spec_files.specs.Stopped.{IsStoppedByThreads};
 ghost use Rattle.spec_files.specs.Prints.{Prints, FileSays};
 ghost use Rattle.spec_files.specs.Promises.{SpecIsRun};
 ghost use Rattle.spec_files.specs.Runs.{is_refusal, has_broken, has_ended, tells_memory, IsTold};
@@ -51,6 +53,7 @@ fn run_permutations<
         RunBroken (spec_view file.now.spec) (blocks_of file.now.blocks.items) limit (permutations_of (spec_view file.now.spec))
         (W.put_so_far out.old) (W.put_so_far out.new) (N.put_so_far notes.old) (N.put_so_far notes.new) }
     ensures unbroken { result ≢ Err RunFault.ScheduleBroken }
+    ensures sure { HasItsBlocks (spec_view file.now.spec) (blocks_of file.now.blocks.items) → EachHasItsSteps (spec_view file.now.spec) → IsStoppedByThreads result }
     ensures write { IsErrOf result RunFault.Write → (W.failed out.new || N.failed notes.new) ≡ true }
     ensures kinds { IfErr result (λ e. is_refusal e ≡ false) }
     ensures memory { IfErr result (λ e. tells_memory e ≡ true) }
@@ -95,6 +98,7 @@ fn run_file<
     ensures memory { IfErr result (λ e. tells_memory e ≡ true) }
     ensures room { IsErrOf result RunFault.Memory → (length bytes.now ≤ LONGEST_FILE) × IsUtf8 bytes.now }
     ensures unbroken { result ≢ Err RunFault.ScheduleBroken }
+    ensures sure { IsComplete bytes.now → IsStoppedByThreads result }
     ensures write { IsErrOf result RunFault.Write → (W.failed out.new || N.failed notes.new) ≡ true }
     ensures read { result ≢ Err RunFault.Read }
 {
@@ -109,7 +113,8 @@ fn run_file<
 /// is written depends on anything but the bytes read and the limit. The file is refused before anything is written: for its
 /// length, as no UTF-8, for its tokens, as no spec, and for its blocks in the order of the file, in this order. After `limit`
 /// permutations, with one more there, the run ends; so it does after a setup that fails or waits. A permutation whose run
-/// comes to no end writes nothing, and the run ends in `Threads`; none ends in `ScheduleBroken`.
+/// comes to no end writes nothing, and the run ends in `Threads`; none ends in `ScheduleBroken`. Where what runs the
+/// permutations is stopped by no engine's refusal, nor is the run.
 pub fn run_spec_by<
     S: Source,
     W: Sink,
@@ -126,7 +131,8 @@ pub fn run_spec_by<
     run: &F,
 ) -> Result<(), RunFault>
     requires { RunsEach (F.pre run.now) (F.post run.now) }
-    ensures { SpecIsRun S.Source W.Sink N.Sink input.old input.new out.old out.new notes.old notes.new limit result }
+    ensures run { SpecIsRun S.Source W.Sink N.Sink input.old input.new out.old out.new notes.old notes.new limit result }
+    ensures sure { ((file : List ℕ) → IsComplete file) → IsStoppedByThreads result }
 {
     let bytes = read_all(alloc, input, LONGEST_FILE + 1)?;
     run_file(rt, alloc, &bytes, out, notes, limit, run)

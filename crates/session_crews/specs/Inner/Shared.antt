@@ -6,7 +6,8 @@ use Rattle.session_machine.specs.declared.event.Order.TheVariants.{Stop}
 use Rattle.session_machine.specs.declared.reply.HistItem.{HistItem}
 use Rattle.session_machine.specs.Engine.{Engine}
 use Rattle.session_seats.specs.declared.fault.ThreadFault.{ThreadFault}
-use Rattle.session_seats.specs.declared.fault.ThreadFault.TheVariants.{ThreadRefused, Gate, Memory}
+use Rattle.session_seats.specs.declared.fault.ThreadFault.TheVariants as thread_faults
+use Rattle.session_machine.specs.declared.fault.EngineFault.TheVariants as engine_faults
 use Rattle.session_seats.specs.Orders.{Orders, IsOrder, OrderedAfter}
 use Rattle.session_seats.specs.Refusals.{IsNextIn, MayMeet}
 
@@ -39,9 +40,10 @@ pub record IsServed (orders : Orders) (e : Engine) (order : Option Event) (fault
   pub next : fault ≡ None → IfSome order (IsNextIn orders e)
   pub met : IfSome fault (MayMeet orders e)
 
--- it isn't the engine that the fault comes from
+-- the fault says nothing of what the engine was to do next: a thread that isn't started, a gate, want of memory, or an event that came out of turn
 abbrev pub is_outside : ThreadFault → Bool
-is_outside ThreadRefused = true
-is_outside Gate = true
-is_outside Memory = true
+is_outside thread_faults.ThreadRefused = true
+is_outside thread_faults.Gate = true
+is_outside thread_faults.Memory = true
+is_outside (thread_faults.Engine engine_faults.NotYourTurn) = true
 is_outside _ = false

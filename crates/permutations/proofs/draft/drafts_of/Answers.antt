@@ -1,9 +1,8 @@
-use Rattle.std.proofs.Common.{◌≡◌, ◌++◌, ◌∷◌, [], length, rules, arith, subst, sym}
+use Rattle.std.proofs.Common.{◌≡◌, ◌++◌, ◌∷◌, [], length, rules, arith}
 use Rattle.sql_blocks.specs.Blocks.{blocks_of}
-use Rattle.spec_parser.specs.Trees.{perm_view, spec_view}
-use Rattle.spec_files.specs.Drafts.{IsDraft, entries_of}
-use Rattle.permutations.specs.Stopped.{IsStoppedSo}
-use Rattle.permutations.proofs.Drafting.{all_more, all_none, written_all, written_more, written_none}
+use Rattle.spec_parser.specs.Trees.{spec_view}
+use Rattle.spec_files.specs.Drafts.{IsDraft}
+use Rattle.permutations.proofs.Drafting.{written_all, written_more, written_none}
 use Rattle.permutations.proofs.Running.{ran_next, ran_of}
 use Rattle.permutations.proofs.draft.drafts_of.Goals as goal
 
@@ -17,7 +16,6 @@ loop-entries-init g c =
     record {
       ran = ran_of spec blocks c.deref.result.now c.into_iter-entries-iterator.result.rest.items c.runs_of.result.items c.into_iter-runs.result.rest.items lent runs c.runs_of.ensures;
       written = written_none (IsDraft spec blocks) c.args.taken.items c.into_iter-entries-iterator.result.rest.items c.args.drafts.items left c.requires.room.empty;
-      sure = all_none c.args.drafts.items (λ draft. IsStoppedSo spec blocks (entries_of draft) draft.result) c.requires.room.empty;
       room = search (rules, arith);
     }
 
@@ -33,8 +31,6 @@ loop-entries-preserved g c =
     record {
       ran = (ran_next spec blocks left rest c.in-Some.entries c.next-run.result c.loop-entries.runs.rest.items c.next-run.new.self.rest.items _ _ c.loop-entries.invariant.ran first c.next-run.ensures.cases (λ none. search (rules, arith))).1;
       written = written_more (IsDraft spec blocks) c.args.taken.items left rest c.loop-entries.drafts.items now c.in-Some.entries c.draft_of-draft.result c.loop-entries.invariant.written first pushed c.draft_of-draft.ensures.draft c.draft_of-draft.ensures.entries;
-      sure = all_more c.loop-entries.drafts.items now c.draft_of-draft.result (λ draft. IsStoppedSo spec blocks (entries_of draft) draft.result) c.loop-entries.invariant.sure
-          (subst (λ entries. IsStoppedSo spec blocks (perm_view entries) c.draft_of-draft.result.result) (sym c.draft_of-draft.ensures.entries) c.draft_of-draft.ensures.sure) pushed;
       room = search (rules, arith);
     }
 
@@ -43,7 +39,7 @@ draft_of-draft-requires-clause-ran g c =
     (ran_next (spec_view c.args.spec.now) (blocks_of c.args.blocks.now) c.loop-entries.entries-iterator.rest.items c.next.new.self.rest.items c.in-Some.entries c.next-run.result c.loop-entries.runs.rest.items c.next-run.new.self.rest.items _ _
     c.loop-entries.invariant.ran c.in-Some.ensures.steps.0 c.next-run.ensures.cases (λ none. search (rules, arith))).0
 
-pub returns-clause-drafts : goal.returns-clause-drafts
-returns-clause-drafts g c =
+pub returns : goal.returns
+returns g c =
     let none : length c.loop-entries.entries-iterator.rest.items ≡ 0 = search (rules, arith) in
     written_all (IsDraft (spec_view c.args.spec.now) (blocks_of c.args.blocks.now)) c.args.taken.items c.loop-entries.entries-iterator.rest.items c.loop-entries.drafts c.loop-entries.invariant.written none

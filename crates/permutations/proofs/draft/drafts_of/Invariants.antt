@@ -1,10 +1,8 @@
 use Rattle.std.specs.Prelude.{◌+◌, ◌≤◌, length, vec_len, vec_capacity}
-use Rattle.std.specs.List.{All}
 use Rattle.sql_blocks.specs.Blocks.{blocks_of}
 use Rattle.spec_parser.specs.Trees.{spec_view}
-use Rattle.spec_files.specs.Drafts.{IsDraft, entries_of}
+use Rattle.spec_files.specs.Drafts.{IsDraft}
 use Rattle.permutations.specs.Inner.Runs.{RanAsEach}
-use Rattle.permutations.specs.Stopped.{IsStoppedSo}
 use Rattle.permutations.proofs.Drafting.{Written}
 use Rattle.permutations.proofs.draft.drafts_of.Given as goal
 
@@ -12,6 +10,5 @@ abbrev pub invariant-loop-entries : goal.invariant-loop-entries
 invariant-loop-entries g l = record {
   ran : RanAsEach (spec_view l.spec) (blocks_of l.blocks) l.entries-iterator.rest.items l.runs.rest.items;
   written : Written (IsDraft (spec_view l.spec) (blocks_of l.blocks)) l.fn.taken.items l.entries-iterator.rest.items l.drafts.items;
-  sure : All (λ draft. IsStoppedSo (spec_view l.spec) (blocks_of l.blocks) (entries_of draft) draft.result) l.drafts.items;
   room : vec_len l.drafts + length l.entries-iterator.rest.items ≤ vec_capacity l.drafts;
 }

@@ -7,7 +7,7 @@ use Rattle.spec_parser.specs.Trees.{EntryTree, spec_view}
 use Rattle.permutation_lists.specs.Permutations.{Coming, permutations_of}
 use Rattle.spec_files.specs.Runs.{IsOneTold}
 use Rattle.spec_files.proofs.Printing.{SoFar, starts, goes_on, all_ran, one_too_many, run_stops}
-use Rattle.history_laws.specs.UnderWay.{HasItsSteps}
+use Rattle.spec_files.specs.Complete.{HasItsSteps}
 use Rattle.plain_runs.proofs.print.print_all.Goals as goal
 
 pub loop-permutations-init : goal.loop-permutations-init

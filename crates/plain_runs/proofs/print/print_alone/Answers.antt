@@ -6,7 +6,7 @@ use Rattle.permutation_lists.specs.Permutations.{permutations_of}
 use Rattle.spec_files.specs.BlockAnswers.{file_view}
 use Rattle.spec_files.specs.Prints.{Prints}
 use Rattle.spec_files.proofs.Whole.{room_of}
-use Rattle.history_laws.specs.UnderWay.{HasItsBlocks}
+use Rattle.spec_files.specs.Complete.{HasItsBlocks}
 use Rattle.plain_runs.specs.Alone.{IsOfFile, IsOfPrint, prints}
 use Rattle.plain_runs.proofs.Ending.{no_refusal, of_reading}
 use Rattle.plain_runs.proofs.print.print_alone.Goals as goal

@@ -1,7 +1,8 @@
 use Rattle.std.proofs.Common.{◌≡◌, ◌++◌, ◌∷◌, [], None, true, length, rules, arith}
 use Rattle.std.specs.Prelude.{IfSome}
 use Rattle.session_machine.specs.Engine.{is_quiet_in}
-use Rattle.session_seats.specs.declared.fault.ThreadFault.TheVariants.{OtherRun}
+use Rattle.session_machine.specs.declared.fault.EngineFault.TheVariants.{NotYourTurn}
+use Rattle.session_seats.specs.declared.fault.ThreadFault.TheVariants.{Engine}
 use Rattle.session_seats.specs.Orders.{IsDriven}
 use Rattle.session_seats.specs.Refusals.{MayMeet}
 use Rattle.session_crews.proofs.Lists.{all_more, count_on}
@@ -18,6 +19,6 @@ loop-run-preserved g c =
       room = search (rules, arith);
       quiet = all_more so_far now over (λ over. over.run.late ≡ None → is_quiet_in (g.E.Engine.engine over.run.engine).machine ≡ true) c.loop-run.invariant.quiet c.ended_of-over.ensures.quiet pushed;
       driven = all_more so_far now over (λ over. over.run.late ≡ None → IsDriven (g.O.Orderings.orders over.place) (g.E.Engine.engine over.run.engine).history) c.loop-run.invariant.driven c.ended_of-over.ensures.driven pushed;
-      late = all_more so_far now over (λ over. IfSome over.run.late (λ fault. fault ≡ OtherRun)) c.loop-run.invariant.late c.ended_of-over.ensures.told pushed;
+      late = all_more so_far now over (λ over. IfSome over.run.late (λ fault. fault ≡ Engine NotYourTurn)) c.loop-run.invariant.late c.ended_of-over.ensures.told pushed;
       may = all_more so_far now over (λ over. IfSome over.run.met (MayMeet (g.O.Orderings.orders over.place) (g.E.Engine.engine over.run.engine))) c.loop-run.invariant.may c.ended_of-over.ensures.may pushed;
     }

@@ -1,7 +1,8 @@
 use Rattle.std.proofs.Common.{◌≡◌, ◌++◌, ◌∷◌, [], None, true, length, arith, rules, subst, sym}
 use Rattle.std.specs.Prelude.{IfSome}
 use Rattle.session_machine.specs.Engine.{is_quiet_in}
-use Rattle.session_seats.specs.declared.fault.ThreadFault.TheVariants.{OtherRun}
+use Rattle.session_machine.specs.declared.fault.EngineFault.TheVariants.{NotYourTurn}
+use Rattle.session_seats.specs.declared.fault.ThreadFault.TheVariants.{Engine}
 use Rattle.session_seats.specs.Orders.{IsDriven}
 use Rattle.session_seats.specs.Refusals.{MayMeet}
 use Rattle.sql_blocks.specs.Blocks.{blocks_of}
@@ -20,7 +21,7 @@ loop-over-init g c =
       room = search (rules, arith);
       quiet = all_same c.args.ended.items left (λ over. over.run.late ≡ None → is_quiet_in over.run.engine.state.machine ≡ true) same c.requires.quiet;
       driven = all_same c.args.ended.items left (λ over. over.run.late ≡ None → IsDriven (g.O.Orderings.orders over.place) over.run.engine.state.history) same c.requires.driven;
-      late = all_same c.args.ended.items left (λ over. IfSome over.run.late (λ fault. fault ≡ OtherRun)) same c.requires.late;
+      late = all_same c.args.ended.items left (λ over. IfSome over.run.late (λ fault. fault ≡ Engine NotYourTurn)) same c.requires.late;
       may = all_same c.args.ended.items left (λ over. IfSome over.run.met (MayMeet (g.O.Orderings.orders over.place) over.run.engine.state)) same c.requires.may;
       ran = subst (λ runs. RanFrom (blocks_of c.args.blocks.now) c.args.sessions g.O.Orderings.orders 0 runs) (sym c.requires.room.empty) tt;
     }
@@ -35,7 +36,7 @@ close_one-run-requires-clause-driven g c =
 
 pub close_one-run-requires-clause-late : goal.close_one-run-requires-clause-late
 close_one-run-requires-clause-late g c =
-    all_first c.loop-over.over-iterator.rest.items c.next.new.self.rest.items c.in-Some.over (λ over. IfSome over.run.late (λ fault. fault ≡ OtherRun)) c.loop-over.invariant.late c.in-Some.ensures.steps.0
+    all_first c.loop-over.over-iterator.rest.items c.next.new.self.rest.items c.in-Some.over (λ over. IfSome over.run.late (λ fault. fault ≡ Engine NotYourTurn)) c.loop-over.invariant.late c.in-Some.ensures.steps.0
 
 pub close_one-run-requires-clause-may : goal.close_one-run-requires-clause-may
 close_one-run-requires-clause-may g c =
@@ -58,7 +59,7 @@ loop-over-preserved g c =
       room = search (rules, arith);
       quiet = all_rest left rest over (λ over. over.run.late ≡ None → is_quiet_in over.run.engine.state.machine ≡ true) before.quiet first;
       driven = all_rest left rest over (λ over. over.run.late ≡ None → IsDriven (g.O.Orderings.orders over.place) over.run.engine.state.history) before.driven first;
-      late = all_rest left rest over (λ over. IfSome over.run.late (λ fault. fault ≡ OtherRun)) before.late first;
+      late = all_rest left rest over (λ over. IfSome over.run.late (λ fault. fault ≡ Engine NotYourTurn)) before.late first;
       may = all_rest left rest over (λ over. IfSome over.run.met (MayMeet (g.O.Orderings.orders over.place) over.run.engine.state)) before.may first;
       ran = ran_on (blocks_of c.args.blocks.now) c.args.sessions g.O.Orderings.orders so_far now one before.ran (subst (λ n. CameBy (blocks_of c.args.blocks.now) c.args.sessions (g.O.Orderings.orders n) one) at (record { ran = c.close_one-run.ensures.ran; stopped = c.close_one-run.ensures.stopped })) pushed;
     }

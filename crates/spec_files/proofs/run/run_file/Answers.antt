@@ -52,3 +52,8 @@ returns-in_err-line-clause-room g c = λ _. room_of c.args.bytes.now (file_view 
 
 pub returns-clause-room : goal.returns-clause-room
 returns-clause-room g c = λ _. room_of c.args.bytes.now (file_view c.in_ok-file.file) c.in_ok-file.ensures.ok
+
+pub returns-clause-sure : goal.returns-clause-sure
+returns-clause-sure g c = λ complete.
+    let there = complete (file_view c.in_ok-file.file) c.in_ok-file.ensures.ok in
+    c.run_permutations.ensures.sure there.0 there.1

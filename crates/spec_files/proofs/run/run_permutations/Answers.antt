@@ -1,13 +1,14 @@
 use Rattle.std.proofs.lemmas.Result.{err_from_is_err_and}
-use Rattle.std.proofs.Common.{◌≡◌, ◌≢◌, ◌∷◌, ◌<◌, ◌≤◌, [], length, rules, arith, refl, sym, ap, ◌+◌, ◌-◌}
+use Rattle.std.proofs.Common.{◌≡◌, ◌≢◌, ◌∷◌, ◌<◌, ◌≤◌, [], List, length, rules, arith, refl, sym, ap, subst, ◌+◌, ◌-◌}
+use Rattle.std.specs.Prelude.{Contains}
 use Rattle.sql_blocks.specs.Blocks.{blocks_of}
-use Rattle.spec_parser.specs.Trees.{spec_view}
+use Rattle.spec_parser.specs.Trees.{EntryTree, spec_view}
 use Rattle.permutation_lists.specs.Permutations.{permutations_of}
 use Rattle.spec_files.specs.Drafts.{IsDraft, entries_of}
 use Rattle.spec_files.specs.Inner.Drafts.{to_come}
 use Rattle.spec_files.proofs.Printing.{starts, still, goes_on, all_ran, one_too_many, run_stops, breaks}
 use Rattle.spec_files.proofs.Beginning.{at_sink, whole_begun, next_begun}
-use Rattle.spec_files.proofs.Turns.{draft_told, draft_begun, draft_broken, no_drafts, all_come, first_of, none_left}
+use Rattle.spec_files.proofs.Turns.{draft_told, draft_begun, draft_broken, draft_sure, is_among, rest_among, no_drafts, all_come, first_of, none_left}
 use Rattle.spec_files.proofs.run.run_permutations.Goals as goal
 
 pub loop-ahead-init : goal.loop-ahead-init
@@ -24,6 +25,7 @@ loop-ahead-init g c =
           (starts spec blocks out notes c.args.limit (permutations_of spec)),
       no_drafts spec blocks ahead.drafts.items c.in_ok-ahead.ensures.drafts,
       few,
+      λ p is. subst (λ (ps : List (List EntryTree)). Contains ps p) (sym all) is,
     )
 
 pub loop-ahead-preserved : goal.loop-ahead-preserved
@@ -53,6 +55,7 @@ loop-ahead-preserved g c =
       still spec blocks wo wn eo en c.args.limit all (old.left - 1) rest new.left rest one_less refl goes,
       search rules,
       search rules,
+      rest_among all more rest (entries_of c.in-Some.draft) c.loop-ahead.invariant.3 next,
     )
 
 pub returns-in_err-put-clause-told : goal.returns-in_err-put-clause-told
@@ -103,6 +106,19 @@ returns-in_err-put-clause-broken g c =
     rw (p.1, p.2) (λ broken.
     let same = c.in_err-put.ensures.nothing (draft_broken c.in-Some.draft _ c.in_err-put.ensures.answer broken) in
     rw (same.0, same.1) (breaks spec blocks wo wm eo em c.args.limit all old.left more (entries_of c.in-Some.draft) rest so next some))
+
+pub returns-in_err-put-clause-sure : goal.returns-in_err-put-clause-sure
+returns-in_err-put-clause-sure g c =
+    let spec = spec_view c.args.file.now.spec in
+    let blocks = blocks_of c.args.file.now.blocks.items in
+    let old = c.loop-ahead.ahead in
+    let more = to_come old.drafts.items old.behind.more in
+    let rest = to_come c.next.new.self.drafts.items c.next.new.self.behind.more in
+    let is : IsDraft spec blocks c.in-Some.draft = search rules in
+    let next : more ≡ entries_of c.in-Some.draft ∷ rest = search rules in
+    let there = is_among (permutations_of spec) more rest (entries_of c.in-Some.draft) c.loop-ahead.invariant.3 next in
+    let p = err_from_is_err_and c.from_residual-in_err-put.result c.from_residual-in_err-put.ensures.1 in
+    rw (p.1, p.2) (λ has steps. draft_sure spec blocks c.in-Some.draft _ is c.in_err-put.ensures.answer has (steps (entries_of c.in-Some.draft) there))
 
 pub returns-in_err-put-clause-begun : goal.returns-in_err-put-clause-begun
 returns-in_err-put-clause-begun g c =

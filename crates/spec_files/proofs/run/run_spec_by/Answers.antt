@@ -8,8 +8,8 @@ use Rattle.report_text.specs.Said.{Said}
 use Rattle.spec_files.proofs.Listing.{of_bytes}
 use Rattle.spec_files.proofs.run.run_spec_by.Goals as goal
 
-pub returns : goal.returns
-returns g c =
+pub returns-clause-run : goal.returns-clause-run
+returns-clause-run g c =
     let left = g.S.Source.left c.args.input.now in
     let wo = g.W.Sink.put_so_far c.args.out.now in
     let wn = g.W.Sink.put_so_far c.run_file.new.out in
@@ -31,8 +31,8 @@ returns g c =
       taken = search rules;
     }
 
-pub returns-in_err-bytes : goal.returns-in_err-bytes
-returns-in_err-bytes g c = record {
+pub returns-in_err-bytes-clause-run : goal.returns-in_err-bytes-clause-run
+returns-in_err-bytes-clause-run g c = record {
   told = search rules;
   begun = search rules;
   broken = search rules;
@@ -45,3 +45,6 @@ returns-in_err-bytes g c = record {
   write = search rules;
   taken = search rules;
 }
+
+pub returns-clause-sure : goal.returns-clause-sure
+returns-clause-sure g c = λ complete. c.run_file.ensures.sure (complete c.deref.result.now)

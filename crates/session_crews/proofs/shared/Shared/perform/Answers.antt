@@ -29,8 +29,8 @@ invariant_of-self-in-Err g c =
       record { next = λ _. tt; met = subst (λ fault. IfSome fault (MayMeet orders after)) (sym none) tt },
     )
 
-pub note-requires : goal.note-requires
-note-requires g c =
+pub note-requires-in-Err : goal.note-requires-in-Err
+note-requires-in-Err g c =
     let orders = g.O.Orderings.orders c.self.inside.place in
     let before = g.E.Engine.engine c.self.inside.engine in
     let after = g.E.Engine.engine c.act-acted.new.engine in

@@ -1,0 +1,22 @@
+-- What a run is told to have met.
+use Rattle.std.specs.Prelude.{Bool, true, false, Option, Some, None, if◌then◌else◌}
+use Rattle.session_machine.specs.declared.fault.EngineFault.TheVariants as engine_faults
+use Rattle.session_seats.specs.declared.fault.ThreadFault.{ThreadFault}
+use Rattle.session_seats.specs.declared.fault.ThreadFault.TheVariants as thread_faults
+
+-- the engine refused what was next for it
+abbrev pub is_refusal : ThreadFault → Bool
+is_refusal (thread_faults.Engine engine_faults.Memory) = false
+is_refusal (thread_faults.Engine engine_faults.NotYourTurn) = false
+is_refusal (thread_faults.Engine fault) = true
+is_refusal _ = false
+
+-- of another run than was handed in, a fault that was met, but not what its engine refused; then, that it is another
+abbrev pub told_of_another : Option ThreadFault → Option ThreadFault
+told_of_another None = Some thread_faults.OtherRun
+told_of_another (Some fault) = Some (if is_refusal fault then thread_faults.OtherRun else fault)
+
+-- of the run that was handed in, what was met in it
+abbrev pub told_of : Bool → Option ThreadFault → Option ThreadFault
+told_of true met = met
+told_of false met = told_of_another met
