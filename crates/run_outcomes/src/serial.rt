@@ -1,6 +1,6 @@
 //! Serial orders of transactions, and their outcomes.
 
-ghost use Rattle.std.specs.Prelude.{◌≡◌, ◌<◌, ◌^◌, ◌↔◌, IfOk, IsTrue, MatchOption, OnOk, length, map, string_bytes};
+ghost use Rattle.std.specs.Prelude.{◌<◌, ◌^◌, ◌↔◌, IfOk, IsTrue, MatchOption, OnOk, length, map, string_bytes};
 ghost use Rattle.sql_blocks.specs.Blocks.{blocks_of};
 ghost use Rattle.permutation_plans.specs.Regular.{IsRegular};
 ghost use Rattle.spec_parser.specs.Trees.{entry_view, spec_view};
