@@ -3,7 +3,7 @@
 #![tactic(auto)]
 
 use anyhow::Result;
-use outcome_text::answer_of;
+use outcome_text::{Nobody, answer_of};
 use std::fs;
 use std::process::ExitCode;
 use std::rt::Runtime;
@@ -37,7 +37,7 @@ fn text_or_none<R: Runtime + AllocGlobal>(rt: &R, path: &str) -> Result<String> 
 fn said_of<R: Runtime + AllocGlobal>(rt: &R, name: &str) -> Result<String> {
     let alloc = rt.alloc();
     let spec = fs::read(rt, format!(in alloc; "specs/{name}.spec")?.as_str())?;
-    match answer_of(alloc, spec.as_slice(), LIMIT, false) {
+    match answer_of(alloc, spec.as_slice(), LIMIT, false, &mut Nobody) {
         Ok(answer) => Ok(answer.text),
         Err(fault) => Ok(format!(in alloc; "{fault}\n")?),
     }

@@ -2,11 +2,14 @@
 //! those that no serial order of the transactions has.
 #![tactic(auto)]
 
+mod progress;
 mod words;
 
 use iso_lexer::{FromStd, LONGEST_FILE, read_all};
 use outcome_text::{Answer, answer_of};
 use permutations::RunFault;
+use progress::Progress;
+use std::io::IsTerminal;
 use std::process::ExitCode;
 use std::rt::Runtime;
 use std::{env, io};
@@ -18,17 +21,30 @@ const WORDS_REFUSED: u8 = 2;
 /// The status where an outcome is not serial, and that was asked.
 const NOT_SERIAL: u8 = 4;
 
-/// Reads the file, and says what can happen in it.
-fn read_and_answer<R: Runtime + AllocGlobal>(rt: &R, request: Request) -> Result<Answer, RunFault> {
+/// Reads the file, and says what can happen in it; meanwhile, where somebody reads the errors, how far that has come.
+fn read_and_answer<R: Runtime + AllocGlobal>(
+    rt: &R,
+    request: Request,
+    is_read: bool,
+) -> Result<Answer, RunFault> {
     let alloc = rt.alloc();
     let mut input = FromStd::new(rt.reader());
     let bytes = read_all(alloc, &mut input, LONGEST_FILE + 1)?;
-    answer_of(alloc, bytes.as_slice(), request.limit, request.html)
+    let mut progress = Progress::new(rt, is_read);
+    let answer = answer_of(
+        alloc,
+        bytes.as_slice(),
+        request.limit,
+        request.html,
+        &mut progress,
+    );
+    progress.end();
+    answer
 }
 
 /// Prints what can happen, and gives the exit status.
-fn run<R: Runtime + AllocGlobal>(rt: &R, request: Request) -> io::Result<u8> {
-    match read_and_answer(rt, request) {
+fn run<R: Runtime + AllocGlobal>(rt: &R, request: Request, is_read: bool) -> io::Result<u8> {
+    match read_and_answer(rt, request, is_read) {
         Ok(answer) => {
             let text = answer.text.as_str();
             print!(rt; "{text}")?;
@@ -52,7 +68,7 @@ fn main(rt: HostRuntime) -> io::Result<ExitCode> {
             println!(rt; "{USAGE}")?;
             Ok(ExitCode::SUCCESS)
         }
-        Some(request) => Ok(ExitCode::from(run(&rt, request)?)),
+        Some(request) => Ok(ExitCode::from(run(&rt, request, rt.stderr().is_terminal())?)),
         None => {
             eprintln!(rt; "{USAGE}")?;
             Ok(ExitCode::from(WORDS_REFUSED))

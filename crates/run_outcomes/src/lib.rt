@@ -8,7 +8,9 @@ mod play;
 mod serial;
 mod setups;
 mod verdict;
+mod watch;
 
 pub use ending::Ending;
 pub use outcome::written;
 pub use outcomes::{Judged, Outcomes, outcomes_of};
+pub use watch::{Nobody, Watch};

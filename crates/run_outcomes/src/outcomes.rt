@@ -15,6 +15,7 @@ use crate::outcome::{outcome_of, tables_made};
 use crate::play::play;
 use crate::serial::serial_orders;
 use crate::verdict::verdict_of;
+use crate::watch::Watch;
 use iso_lexer::Page;
 use outcome_counts::{Counted, Group};
 use outcome_verdicts::{SerialOrder, Verdict, transactions_of};
@@ -119,12 +120,13 @@ fn count_one<'t>(
 }
 
 /// Runs the permutations of a spec, up to so many, and counts them.
-fn count_all<'t>(
+fn count_all<'t, W: Watch>(
     alloc: Global,
     spec: &Spec<'_>,
     blocks: &[Block<'t>],
     names: &[String],
     limit: u64,
+    watch: &mut W,
 ) -> Result<(u64, Counted<'t>), RunFault>
     requires spec { Stands (spec_view spec.now) }
     ensures { IfOk result (λ all. AllCounted (spec_view spec.now) (blocks_of blocks.now) (map string_bytes names.now) all.0 (counts_view all.1)) }
@@ -145,6 +147,7 @@ fn count_all<'t>(
             permutations.entries(),
             &mut counted,
         )?;
+        watch.have_run(number);
     }
     Ok((number, counted))
 }
@@ -186,12 +189,13 @@ fn judge_all<'t>(
 }
 
 /// Runs the permutations of a spec, up to so many, and says what can happen. After `limit` permutations, with one more there, the
-/// run ends; so it does after a setup that fails or waits.
-pub fn outcomes_of<'t>(
+/// run ends; so it does after a setup that fails or waits. Who watches is told behind each permutation how many have run.
+pub fn outcomes_of<'t, W: Watch>(
     alloc: Global,
     spec: &Spec<'_>,
     blocks: &[Block<'t>],
     limit: u64,
+    watch: &mut W,
 ) -> Result<Outcomes<'t>, RunFault>
     requires spec { Stands (spec_view spec.now) }
     ensures counted { IfOk result (λ o. AllCounted (spec_view spec.now) (blocks_of blocks.now) (map string_bytes o.tables.items) o.permutations (counts_view o.counted)) }
@@ -199,7 +203,7 @@ pub fn outcomes_of<'t>(
     ensures long { IfOk result (λ o. length o.judged.items ≡ length o.counted.groups.items) }
 {
     let tables = tables_made(alloc, spec, blocks)?;
-    let (permutations, counted) = count_all(alloc, spec, blocks, tables.as_slice(), limit)?;
+    let (permutations, counted) = count_all(alloc, spec, blocks, tables.as_slice(), limit, watch)?;
     let judged = judge_all(alloc, spec, blocks, &tables, counted.groups.as_slice())?;
     Ok(Outcomes {
         tables,

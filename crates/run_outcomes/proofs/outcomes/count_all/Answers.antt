@@ -8,7 +8,7 @@ use Rattle.run_outcomes.proofs.Fates.{SoFar, at_first, next_one, room_so_far}
 use Rattle.run_outcomes.proofs.outcomes.count_all.Goals as goal
 
 pub loop-counted-init : goal.loop-counted-init
-loop-counted-init c =
+loop-counted-init g c =
     let spec = spec_view c.args.spec.now in
     let blocks = blocks_of c.args.blocks.now in
     let names = map string_bytes c.args.names.now in
@@ -16,13 +16,13 @@ loop-counted-init c =
     (at_first spec blocks names (permutations_of spec) c.in_ok-permutations.permutations.more (ap (λ (p : Coming). p.more) c.in_ok-permutations.ensures.permutations))
 
 pub count_one-requires-clause-room : goal.count_one-requires-clause-room
-count_one-requires-clause-room c =
+count_one-requires-clause-room g c =
     let spec = spec_view c.args.spec.now in
     let few : c.loop-counted.number + 1 < 2 ^ 64 = omega (arith, c.if-number-limit.false, c.ranges.limit) in
     room_so_far spec (blocks_of c.args.blocks.now) (map string_bytes c.args.names.now) (permutations_of spec) c.loop-counted.permutations.more c.loop-counted.number (counts_view c.loop-counted.counted) c.loop-counted.invariant few
 
 pub loop-counted-preserved : goal.loop-counted-preserved
-loop-counted-preserved c =
+loop-counted-preserved g c =
     let spec = spec_view c.args.spec.now in
     let blocks = blocks_of c.args.blocks.now in
     let names = map string_bytes c.args.names.now in

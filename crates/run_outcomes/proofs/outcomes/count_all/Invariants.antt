@@ -8,7 +8,7 @@ use Rattle.run_outcomes.proofs.Fates.{SoFar}
 use Rattle.run_outcomes.proofs.outcomes.count_all.Given as goal
 
 abbrev pub invariant-loop-counted : goal.invariant-loop-counted
-invariant-loop-counted l = SoFar (spec_view l.spec) (blocks_of l.blocks) (map string_bytes l.names) (permutations_of (spec_view l.spec)) l.permutations.more l.number (counts_view l.counted)
+invariant-loop-counted g l = SoFar (spec_view l.spec) (blocks_of l.blocks) (map string_bytes l.names) (permutations_of (spec_view l.spec)) l.permutations.more l.number (counts_view l.counted)
 
 abbrev pub decreases-loop-counted : goal.decreases-loop-counted
-decreases-loop-counted l = length l.permutations.more
+decreases-loop-counted g l = length l.permutations.more
