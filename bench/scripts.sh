@@ -9,6 +9,7 @@ for name in isolationtester timeline outcomes; do
 done
 exec python3 - "$here" << 'EOF'
 import os
+import pty
 import re
 import shutil
 import subprocess
@@ -60,6 +61,23 @@ def put(name, text):
 
 def run(words, text=b"", at=None):
     return subprocess.run(words, input=text, capture_output=True, cwd=at or room)
+
+
+def told_on_a_terminal(words, text):
+    """Returns what a program writes to its errors where they are a terminal."""
+    there, its = pty.openpty()
+    with subprocess.Popen(words, stdin=subprocess.PIPE, stdout=subprocess.DEVNULL, stderr=its) as ran:
+        os.close(its)
+        ran.communicate(text)
+    told = b""
+    try:
+        while more := os.read(there, 4096):
+            told += more
+    except OSError:
+        # (of a terminal that nobody has open any more)
+        pass
+    os.close(there)
+    return told
 
 
 def case(claim, well):
@@ -121,6 +139,9 @@ def outcomes():
     case("outcomes: an example prints its text, with status 0", ran.returncode == 0 and ran.stdout == text)
     case("outcomes --serial: an outcome that no serial order has gives status 4", run([f"{here}/outcomes", "--serial"], spec).returncode == 4)
     case("outcomes --limit: one permutation more ends the run, with status 1", b"R9 TooManyPermutations" in run([f"{here}/outcomes", "--limit", "69"], spec).stderr)
+    a, b = (" ".join(f"step {name}{number} {{ SELECT {number}; }}" for number in range(9)) for name in "ab")
+    told = told_on_a_terminal([f"{here}/outcomes"], f"session a {a} session b {b}\n".encode())
+    case("outcomes: on a terminal it tells each second how many permutations have run, and takes that away", re.fullmatch(rb"(\r\d+ permutations)+\r\x1b\[K", told))
     for words, status in ((["--help"], 0), (["--nothing"], 2), (["--limit"], 2)):
         ran = run([f"{here}/outcomes", *words], b"")
         said = ran.stderr if status else ran.stdout
