@@ -20,6 +20,8 @@ mod kept;
 #[cfg(test)]
 mod keys;
 #[cfg(test)]
+mod listed;
+#[cfg(test)]
 mod orders;
 #[cfg(test)]
 mod random_keys;

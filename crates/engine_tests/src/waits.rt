@@ -83,6 +83,44 @@ fn conditions_are_asked_again(rt: HostRuntime) {
     check(&rt, rt.alloc(), &CONDITIONS);
 }
 
+/// A condition has a fault where the statement begins, and where it is asked again at the version that another has committed.
+const FAULTS: [Line; 13] = [
+    (0, "CREATE TABLE d (x int); INSERT INTO d VALUES (1)", ""),
+    (
+        1,
+        "UPDATE d SET x = 5 WHERE 6 / (x - 1) > 1",
+        " division by zero",
+    ),
+    (
+        1,
+        "DELETE FROM d WHERE 6 / (x - 1) > 1",
+        " division by zero",
+    ),
+    (
+        1,
+        "SELECT x FROM d ORDER BY 6 / (x - 1) FOR UPDATE",
+        " division by zero",
+    ),
+    (
+        1,
+        "SELECT 6 / (x - 1) FROM d FOR UPDATE",
+        " division by zero",
+    ),
+    (1, "BEGIN; UPDATE d SET x = 0", ""),
+    (2, "UPDATE d SET x = 5 WHERE 6 / x > 1", " waits"),
+    (1, "COMMIT", " division by zero"),
+    (1, "UPDATE d SET x = 1", ""),
+    (1, "BEGIN; UPDATE d SET x = 0", ""),
+    (2, "DELETE FROM d WHERE 6 / x > 1", " waits"),
+    (1, "COMMIT", " division by zero"),
+    (2, "SELECT x FROM d", " x | 0"),
+];
+
+#[test]
+fn conditions_with_a_fault(rt: HostRuntime) {
+    check(&rt, rt.alloc(), &FAULTS);
+}
+
 const CYCLES: [Line; 16] = [
     ACCT,
     (1, "BEGIN; UPDATE acct SET bal = 1 WHERE id = 1", ""),

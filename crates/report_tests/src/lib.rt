@@ -10,6 +10,8 @@ mod lines;
 #[cfg(test)]
 mod lists;
 #[cfg(test)]
+mod many_sessions;
+#[cfg(test)]
 mod plans;
 #[cfg(test)]
 mod sizes;

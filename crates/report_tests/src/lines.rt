@@ -99,3 +99,15 @@ fn the_second_step_is_due_after_the_first(rt: HostRuntime) -> Result<(), AllocEr
     holds(&rt, due_is(alloc, &entries, &items, order)?);
     Ok(())
 }
+
+#[test]
+fn the_first_step_is_due_before_anything_has_come(rt: HostRuntime) -> Result<(), AllocError> {
+    let alloc = rt.alloc();
+    let entries = [entry(alloc, 0, &[])?, entry(alloc, 1, &[])?];
+    let order = Order::Launch {
+        session: 1,
+        block: 0,
+    };
+    holds(&rt, due_is(alloc, &entries, &[], order)?);
+    Ok(())
+}

@@ -251,6 +251,13 @@ fn key_waits_for(
     Ok(are(&by, wanted))
 }
 
+/// Where nothing is written no key is waited for.
+fn nobody_is_waited_for(alloc: Global) -> Result<bool, AllocError> {
+    let store = ListStore::new(alloc);
+    let index = KeyIndex::new(alloc);
+    key_waits_for(alloc, &store, &index, 0, &[])
+}
+
 fn keys_are_found(alloc: Global) -> Result<bool, AllocError> {
     let (store, index) = written(alloc)?;
     let found = finds_all(alloc, &store, &index, &two_keys(alloc, TABLE)?, &CASES)?;
@@ -259,7 +266,8 @@ fn keys_are_found(alloc: Global) -> Result<bool, AllocError> {
         found
             && wide
             && key_waits_for(alloc, &store, &index, 0, &[2, 3])?
-            && key_waits_for(alloc, &store, &index, 1, &[2])?,
+            && key_waits_for(alloc, &store, &index, 1, &[2])?
+            && nobody_is_waited_for(alloc)?,
     )
 }
 
