@@ -14,19 +14,17 @@ trap 'rm -rf "$room"' EXIT
 
 make_refuser "$room"
 
-# What a test says that ends with a want of memory or of a thread, or with what came of one
-wants='AllocError|AllocFailed \{ \.\. \}|Memory|ThreadRefused|"(out of memory|memory was refused|no thread could be started|a block with a fault|a refusal)"'
-
-# The test ended with want of memory, or shows it as what came of a text, and nothing else
+# The test ended with one of the wants, and with nothing else
 is_told() {
-  grep -qE "^[Ee]rror: ($wants)\$| gives Memory\$|^ +left: \"Memory\"\$" "$room/said" && ! grep -q '^assertion failed' "$room/said"
+  [ $status -eq 101 ] && grep -qE "^[Ee]rror: ($wants)\$" "$room/said" && ! grep -q '^assertion failed' "$room/said"
 }
 
-# says TEST NUMBER: runs the test with that allocation refused, and keeps what it says and its status
+# says TEST NUMBER: runs the test with that allocation refused, and keeps what it says and its status. `timeout` itself is refused nothing: its own allocations, some 200,
+# would be counted as the test's
 says() {
   rm -f "$room/mark"
   status=0
-  MARK=$room/mark REFUSED=$2 LD_PRELOAD=$room/refuse.so timeout 120 "$program" "$1" > "$room/said" 2>&1 || status=$?
+  timeout 120 env MARK="$room/mark" REFUSED="$2" LD_PRELOAD="$room/refuse.so" "$program" "$1" > "$room/said" 2>&1 || status=$?
 }
 
 # asks TEST NUMBER: whether the test asks for so many

@@ -35,7 +35,7 @@ says() {
 
 # is_told FAULT: the test ended with an error that this pattern fits, and no claim of it was false
 is_told() {
-  [ "$status" -eq 101 ] && grep -qE "^error: \"?($1)" "$room/said" && ! grep -q 'assertion failed' "$room/said"
+  [ "$status" -eq 101 ] && grep -qE "^error: ($1)\$" "$room/said" && ! grep -q 'assertion failed' "$room/said"
 }
 
 began=$SECONDS
@@ -56,7 +56,7 @@ if [ "$(id -u)" -eq 0 ]; then
   passed=0
   for ((run = 0; run < refused; run++)); do
     says setpriv --reuid=$user --regid=$user --clear-groups prlimit --nproc=$((1 + run % 8))
-    comes_of 'no thread could be started' "thread $((1 + run % 8))"
+    comes_of ThreadRefused "thread $((1 + run % 8))"
   done
   echo "$refused times with 0 to 7 threads allowed at once, in $((SECONDS - began)) s: $told ended with that fault, $passed passed, since threads had ended before others started"
 else
@@ -75,7 +75,7 @@ told=0
 passed=0
 for ((run = 1; run <= refused; run++)); do
   says env "MARK=$room/mark" REFUSED=$((1 + run * made / 2 / refused)) "LD_PRELOAD=$room/refuse.so"
-  comes_of 'memory was refused|no thread could be started|AllocError|AllocFailed|a block with a fault|a refusal' "allocation $((1 + run * made / 2 / refused))"
+  comes_of "$wants" "allocation $((1 + run * made / 2 / refused))"
 done
 echo "$refused of at least $((made / 2)) allocations refused in $((SECONDS - began)) s: $told ended with that fault, $passed passed"
 echo "$wrong went wrong"

@@ -1,5 +1,9 @@
 # For the scripts that refuse allocations to a program, which source it.
 
+# The faults that a test may end with behind `error: `, a want of memory or of a thread, as the standard library or one of the crates names it. A text of the test's own,
+# which could stand for other faults too, is none of them.
+wants='AllocError|AllocFailed \{ \.\. \}|Memory|Engine\(Memory\)|ThreadRefused|Threads\(ThreadRefused\)'
+
 # make_refuser ROOM: ROOM/refuse.so stands in front of the C library. It counts the allocations and the starts of threads, with the allocations that these make,
 # refuses the one of the number REFUSED, and leaves the file MARK.
 make_refuser() {

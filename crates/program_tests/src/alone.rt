@@ -2,7 +2,7 @@
 
 use crate::asking::holds;
 use iso_lexer::FromStd;
-use permutations::{RunFault, run_spec};
+use permutations::run_spec;
 use plain_runs::print_alone;
 use session_threads::OpenGate;
 use std::alloc::Global;
@@ -33,6 +33,9 @@ permutation b a1 a2";
 /// More permutations than either file has.
 const MOST: u64 = 200;
 
+/// More bytes than either file prints: a sink that has room for them wants no more memory.
+const ROOM: usize = 1_000_000;
+
 /// What a run prints and notes.
 #[derive(Drop)]
 struct Printed {
@@ -44,9 +47,9 @@ fn by_threads<R: Threads + Wait + Sync>(
     rt: &R,
     alloc: Global,
     spec: &str,
-) -> Result<Printed, RunFault> {
-    let mut text = Vec::new(alloc);
-    let mut notes = Vec::new(alloc);
+) -> Result<Printed, Fail> {
+    let mut text = Vec::with_capacity(alloc, ROOM)?;
+    let mut notes = Vec::with_capacity(alloc, ROOM)?;
     let mut input = FromStd::new(spec.as_bytes());
     let mut out = FromStd::new(&mut text);
     let mut told = FromStd::new(&mut notes);
@@ -55,9 +58,9 @@ fn by_threads<R: Threads + Wait + Sync>(
 }
 
 /// The reports of all permutations, without the line that comes before them.
-fn by_one_thread(alloc: Global, spec: &str) -> Result<Printed, RunFault> {
-    let mut text = Vec::new(alloc);
-    let mut notes = Vec::new(alloc);
+fn by_one_thread(alloc: Global, spec: &str) -> Result<Printed, Fail> {
+    let mut text = Vec::with_capacity(alloc, ROOM)?;
+    let mut notes = Vec::with_capacity(alloc, ROOM)?;
     let mut out = FromStd::new(&mut text);
     let mut told = FromStd::new(&mut notes);
     print_alone(alloc, spec.as_bytes(), &mut out, &mut told, MOST)?;
@@ -71,7 +74,7 @@ fn prints_the_same<R: Threads + Wait + Sync + Abort>(
     rt: &R,
     alloc: Global,
     spec: &str,
-) -> Result<(), RunFault> {
+) -> Result<(), Fail> {
     let threads = by_threads(rt, alloc, spec)?;
     let alone = by_one_thread(alloc, spec)?;
     let text = threads.text.as_slice();
@@ -97,9 +100,7 @@ fn prints_the_same<R: Threads + Wait + Sync + Abort>(
 #[test]
 fn threads_print_what_one_thread_prints(rt: HostRuntime) -> Result<(), Fail> {
     for spec in [DEADLOCKS, KEYS] {
-        if prints_the_same(&rt, rt.alloc(), spec).is_err() {
-            return Err(Fail::new("a run ended early"));
-        }
+        prints_the_same(&rt, rt.alloc(), spec)?;
     }
     Ok(())
 }

@@ -45,9 +45,7 @@ fn first_order(alloc: Global, spec: &Spec<'_>) -> Result<Option<Order>, AllocErr
 
 #[test]
 fn a_plan_is_a_driver(rt: HostRuntime) -> Result<(), Fail> {
-    let Ok(spec) = parse_spec(rt.alloc(), "session s step a { } permutation a") else {
-        return Err(Fail::new("no spec"));
-    };
+    let spec = parse_spec(rt.alloc(), "session s step a { } permutation a")?;
     let launch = Order::Launch {
         session: 1,
         block: 0,

@@ -1,13 +1,28 @@
 //! The options that words give, and those that are refused.
 
 use crate::asking::{ENDLESS, ends, holds, served, words_of};
-use program_words::options_of;
-use std::alloc::AllocError;
-use std::test::Fail;
+use program_words::{Options, options_of, status_of};
+use std::alloc::{AllocError, Global};
 use test_devices::Gives;
 
+/// The status where memory was refused.
+const MEMORY: u8 = 3;
+
+/// The options that words give, if they give any.
+fn given(alloc: Global, words: &[&str]) -> Result<Option<Options>, AllocError> {
+    let all = words_of(alloc, words)?;
+    let refused = match options_of(alloc, all.as_slice()) {
+        Ok(options) => return Ok(Some(options)),
+        Err(refused) => refused,
+    };
+    if status_of(&refused) == MEMORY {
+        return Err(AllocError);
+    }
+    Ok(None)
+}
+
 #[test]
-fn words_give_options(rt: HostRuntime) -> Result<(), Fail> {
+fn words_give_options(rt: HostRuntime) -> Result<(), AllocError> {
     for (words, list, free, limit) in [
         ([].as_slice(), false, false, 1_000_000),
         (["--list"].as_slice(), true, false, 1_000_000),
@@ -21,8 +36,9 @@ fn words_give_options(rt: HostRuntime) -> Result<(), Fail> {
             4_294_967_295,
         ),
     ] {
-        let all = words_of(rt.alloc(), words)?;
-        let options = options_of(rt.alloc(), all.as_slice())?;
+        let Some(options) = given(rt.alloc(), words)? else {
+            return Ok(holds(&rt, false, "options"));
+        };
         holds(&rt, options.list == list, "the list");
         holds(&rt, options.free == free, "the free run");
         holds(&rt, options.limit == limit, "the limit");

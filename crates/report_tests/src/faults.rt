@@ -27,7 +27,7 @@ fn c<'a>() -> Ident<'a> {
     Ident::new(Name::Quoted("c"))
 }
 
-fn prints(alloc: Global, fault: StmtFault<'_>, wanted: &str) -> Result<bool, &'static str> {
+fn prints(alloc: Global, fault: StmtFault<'_>, wanted: &str) -> Result<bool, Fail> {
     let items = [launch(1, 0), last(1, Outcome::Failed(fault)), leave(1)];
     let text = "session s step a { SELECT 2 } permutation a";
     let run = report(alloc, text, &items, ENDLESS)?;

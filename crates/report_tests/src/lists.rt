@@ -39,11 +39,8 @@ fn read(alloc: Global, text: &str) -> Result<Spec<'_>, SpecFault>
 }
 
 /// All lines of a file, which is a spec.
-fn lines(alloc: Global, text: &str) -> Result<Vec<u8>, AllocError> {
-    let spec = match read(alloc, text) {
-        Ok(spec) => spec,
-        Err(_) => return Err(AllocError),
-    };
+fn lines(alloc: Global, text: &str) -> Result<Vec<u8>, Fail> {
+    let spec = read(alloc, text)?;
     let mut permutations = Permutations::of(alloc, &spec)?;
     let mut lines = Vec::new(alloc);
     for _ in 0..10_000 {

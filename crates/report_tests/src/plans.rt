@@ -16,6 +16,9 @@ const STAR_MARKER: &str =
 const SETUPS_AND_TEARDOWNS: &str =
     "setup { CREATE TABLE t (x int); } session s1 step a { INSERT INTO t VALUES (7); } session s2 setup { BEGIN ISOLATION LEVEL REPEATABLE READ; } step r { SELECT * FROM t; } teardown { COMMIT; } permutation r a r";
 
+/// What a text lacks that has no permutation line.
+const NO_LINE: &str = "no permutation line";
+
 /// An order that a permutation gives: a Launch, or a Leave.
 #[derive(Clone, Copy)]
 enum Part {
@@ -68,21 +71,20 @@ fn history<'a>(alloc: Global, parts: &[Part]) -> Result<Vec<HistItem<'a>>, Alloc
     Ok(items)
 }
 
-/// Whether the history of these orders fits the first permutation of the text. None where memory was refused.
-fn fits(alloc: Global, text: &str, parts: &[Part]) -> Option<bool> {
-    let spec = parse_spec(alloc, text).ok()?;
-    let items = history(alloc, parts).ok()?;
-    let entries = spec.perms.first()?;
+/// Whether the history of these orders fits the first permutation of the text.
+fn fits(alloc: Global, text: &str, parts: &[Part]) -> Result<bool, Fail> {
+    let spec = parse_spec(alloc, text)?;
+    let items = history(alloc, parts)?;
+    let entries = spec.perms.first().ok_or(NO_LINE)?;
     if spec.sessions.len() > 64 {
-        return None;
+        return Err(Fail::new("many sessions"));
     }
-    launches_fit(alloc, &spec, entries, &items).ok()
+    Ok(launches_fit(alloc, &spec, entries, &items)?)
 }
 
 fn all_fit(rt: &impl Abort, alloc: Global, text: &str, cases: &[Case<'_>]) -> Result<(), Fail> {
     for (parts, wanted) in cases {
-        let fit = fits(alloc, text, *parts).ok_or("out of memory")?;
-        holds(rt, fit == *wanted);
+        holds(rt, fits(alloc, text, *parts)? == *wanted);
     }
     Ok(())
 }
@@ -136,46 +138,44 @@ fn delete_waits<'t>() -> [HistItem<'t>; 18] {
     ]
 }
 
-/// Whether so many items of that history fit. None where memory was refused.
-fn front_fits(alloc: Global, count: usize) -> Option<bool> {
-    let spec = parse_spec(alloc, DELETE_WAITS_AND_DOES_NOT_RESCAN).ok()?;
+/// Whether so many items of that history fit.
+fn front_fits(alloc: Global, count: usize) -> Result<bool, Fail> {
+    let spec = parse_spec(alloc, DELETE_WAITS_AND_DOES_NOT_RESCAN)?;
     let items = delete_waits();
-    let entries = spec.perms.first()?;
+    let entries = spec.perms.first().ok_or(NO_LINE)?;
     if spec.sessions.len() > 64 {
-        return None;
+        return Err(Fail::new("many sessions"));
     }
-    let front = items.get(..count)?;
-    launches_fit(alloc, &spec, entries, front).ok()
+    let front = items.get(..count).ok_or("so many items")?;
+    Ok(launches_fit(alloc, &spec, entries, front)?)
 }
 
 /// What ends a segment before the last one is no end of the run.
 #[test]
 fn no_history_fits_without_its_last_segment(rt: HostRuntime) -> Result<(), Fail> {
     for count in [0, 3, 5, 7, 9, 12, 14, 15, 16] {
-        holds(&rt, !front_fits(rt.alloc(), count).ok_or("out of memory")?);
+        holds(&rt, !front_fits(rt.alloc(), count)?);
     }
-    holds(&rt, front_fits(rt.alloc(), 18).ok_or("out of memory")?);
+    holds(&rt, front_fits(rt.alloc(), 18)?);
     Ok(())
 }
 
-/// The order after the two setups. None where memory was refused.
-fn third_order(alloc: Global) -> Option<Order> {
-    let spec = parse_spec(alloc, SETUPS_AND_TEARDOWNS).ok()?;
-    let entries = spec.perms.first()?;
+/// The order after the two setups.
+fn third_order(alloc: Global) -> Result<Order, Fail> {
+    let spec = parse_spec(alloc, SETUPS_AND_TEARDOWNS)?;
+    let entries = spec.perms.first().ok_or(NO_LINE)?;
     if spec.sessions.len() > 64 {
-        return None;
+        return Err(Fail::new("many sessions"));
     }
-    let launches = Launches::of(alloc, &spec, entries).ok()?;
-    let items = history(alloc, &[To(0, 0), To(2, 2)]).ok()?;
-    let Ok(mut progress) = launches.begin(alloc, entries) else {
-        return None;
-    };
-    launches.go_on(alloc, entries, &items, &mut progress).ok()
+    let launches = Launches::of(alloc, &spec, entries)?;
+    let items = history(alloc, &[To(0, 0), To(2, 2)])?;
+    let mut progress = launches.begin(alloc, entries)?;
+    Ok(launches.go_on(alloc, entries, &items, &mut progress)?)
 }
 
 #[test]
 fn the_first_step_is_due_after_the_setups(rt: HostRuntime) -> Result<(), Fail> {
-    let order = third_order(rt.alloc()).ok_or("out of memory")?;
+    let order = third_order(rt.alloc())?;
     let wanted = Order::Launch {
         session: 2,
         block: 3,

@@ -4,7 +4,6 @@ ghost use Rattle.std.specs.Prelude.{◌+◌, ◌<◌, ◌^◌, length};
 
 use crate::histories::{done, holds, item, last, launch, leave};
 use crate::texts::is_even;
-use iso_lexer::Page;
 use permutation_lists::{Interleavings, line_of};
 use permutation_plans::{FreeLaunches, Launches, free_fits, launches_fit};
 use query_results::{ResultSet, Title};
@@ -12,10 +11,11 @@ use report_lines::{PermutationRun, RunState, report};
 use report_text::{Ended, write_free, write_report};
 use result_tables::write_table;
 use session_machine::{Event, HistItem, Order, Outcome};
-use spec_parser::{Entry, Spec, parse_spec};
+use spec_parser::{Entry, parse_spec};
 use sql_values::{Row, Value};
 use std::alloc::{AllocError, Global};
 use std::test::Fail;
+use test_devices::Takes;
 
 const SIZES: [u32; 8] = [0, 1, 5, 9, 41, 101, 1_001, 5_001];
 
@@ -61,7 +61,7 @@ fn row(alloc: Global, columns: usize) -> Result<Row, AllocError> {
 }
 
 /// A table of so many rows and columns is written.
-fn table_is_written(alloc: Global, rows: usize, columns: usize) -> Result<bool, AllocError> {
+fn table_is_written(alloc: Global, rows: usize, columns: usize) -> Result<bool, Fail> {
     let mut titles = Vec::new(alloc);
     for _ in 0..columns {
         titles.push(Title::Unnamed)?;
@@ -73,8 +73,9 @@ fn table_is_written(alloc: Global, rows: usize, columns: usize) -> Result<bool, 
     if !is_even(&titles, &all) {
         return Ok(false);
     }
-    let mut page = Page::new(alloc);
-    Ok(write_table(alloc, &mut page, &ResultSet::new(titles, all)).is_ok())
+    let mut out = Takes::new(usize::MAX);
+    write_table(alloc, &mut out, &ResultSet::new(titles, all))?;
+    Ok(true)
 }
 
 /// The first interleaving of so many sessions, each with so many steps, has as many turns as there are steps in all.
@@ -132,12 +133,8 @@ fn statements(alloc: Global, count: usize) -> Result<Vec<HistItem<'static>>, All
     Ok(items)
 }
 
-fn one_step(alloc: Global) -> Result<Spec<'static>, AllocError> {
-    parse_spec(alloc, ONE_STEP).map_err(|_| AllocError)
-}
-
-fn line_is_listed(alloc: Global, count: usize) -> Result<bool, AllocError> {
-    let spec = one_step(alloc)?;
+fn line_is_listed(alloc: Global, count: usize) -> Result<bool, Fail> {
+    let spec = parse_spec(alloc, ONE_STEP)?;
     let entries = entries(alloc, count)?;
     let line = line_of(alloc, &spec, &entries)?;
     Ok(line.starts_with(b"permutation") && line.ends_with(b"\n"))
@@ -164,12 +161,8 @@ fn entries_are_told(alloc: Global, count: usize) -> Result<bool, AllocError> {
 }
 
 /// A plan of that file's entries stops behind a history of theirs, which fits.
-fn plan_stops(
-    alloc: Global,
-    entries: &[Entry],
-    items: &[HistItem<'_>],
-) -> Result<bool, AllocError> {
-    let spec = one_step(alloc)?;
+fn plan_stops(alloc: Global, entries: &[Entry], items: &[HistItem<'_>]) -> Result<bool, Fail> {
+    let spec = parse_spec(alloc, ONE_STEP)?;
     if spec.sessions.len() > 64 {
         return Ok(false);
     }
@@ -180,46 +173,42 @@ fn plan_stops(
     Ok(order == Order::Stop && fits)
 }
 
-fn entries_are_planned(alloc: Global, count: usize) -> Result<bool, AllocError> {
+fn entries_are_planned(alloc: Global, count: usize) -> Result<bool, Fail> {
     let entries = entries(alloc, count)?;
     let items = steps(alloc, count)?;
     plan_stops(alloc, &entries, &items)
 }
 
-fn items_are_planned(alloc: Global, count: usize) -> Result<bool, AllocError> {
+fn items_are_planned(alloc: Global, count: usize) -> Result<bool, Fail> {
     let entries = entries(alloc, 1)?;
     let items = statements(alloc, count)?;
     plan_stops(alloc, &entries, &items)
 }
 
 /// The text of that file's entries and a history of theirs is written to its end.
-fn text_is_written(
-    alloc: Global,
-    entries: &[Entry],
-    items: &[HistItem<'_>],
-) -> Result<bool, AllocError> {
-    let spec = one_step(alloc)?;
-    let mut out = Page::new(alloc);
-    let mut notes = Page::new(alloc);
-    let ended = write_report(alloc, &spec, entries, items, &mut out, &mut notes);
-    Ok(matches!(ended, Ok(Ended::Whole)))
+fn text_is_written(alloc: Global, entries: &[Entry], items: &[HistItem<'_>]) -> Result<bool, Fail> {
+    let spec = parse_spec(alloc, ONE_STEP)?;
+    let mut out = Takes::new(usize::MAX);
+    let mut notes = Takes::new(usize::MAX);
+    let ended = write_report(alloc, &spec, entries, items, &mut out, &mut notes)?;
+    Ok(ended == Ended::Whole)
 }
 
-fn entries_are_written(alloc: Global, count: usize) -> Result<bool, AllocError> {
+fn entries_are_written(alloc: Global, count: usize) -> Result<bool, Fail> {
     let entries = entries(alloc, count)?;
     let items = steps(alloc, count)?;
     text_is_written(alloc, &entries, &items)
 }
 
-fn replies_are_written(alloc: Global, count: usize) -> Result<bool, AllocError> {
+fn replies_are_written(alloc: Global, count: usize) -> Result<bool, Fail> {
     let entries = entries(alloc, 1)?;
     let items = statements(alloc, count)?;
     text_is_written(alloc, &entries, &items)
 }
 
 /// A free run of the one step fits, and its text is written to its end.
-fn free_run_is_written(alloc: Global, count: usize) -> Result<bool, AllocError> {
-    let spec = one_step(alloc)?;
+fn free_run_is_written(alloc: Global, count: usize) -> Result<bool, Fail> {
+    let spec = parse_spec(alloc, ONE_STEP)?;
     if spec.sessions.len() > 64 {
         return Ok(false);
     }
@@ -230,28 +219,28 @@ fn free_run_is_written(alloc: Global, count: usize) -> Result<bool, AllocError> 
     }
     let scripts = FreeLaunches::of(alloc, &spec)?.scripts.len();
     let fits = free_fits(alloc, &spec, &items)?;
-    let mut out = Page::new(alloc);
-    let mut notes = Page::new(alloc);
-    let ended = write_free(alloc, &spec, &items, &mut out, &mut notes);
-    Ok(scripts == 1 && fits && matches!(ended, Ok(Ended::Whole)))
+    let mut out = Takes::new(usize::MAX);
+    let mut notes = Takes::new(usize::MAX);
+    let ended = write_free(alloc, &spec, &items, &mut out, &mut notes)?;
+    Ok(scripts == 1 && fits && ended == Ended::Whole)
 }
 
 /// Whether a call answers what it should of so many.
-fn answers(alloc: Global, call: Call, number: u32) -> Result<bool, AllocError> {
+fn answers(alloc: Global, call: Call, number: u32) -> Result<bool, Fail> {
     let count = number as usize;
-    match call {
-        Call::TableOfRows => table_is_written(alloc, count, 1),
-        Call::TableOfColumns => table_is_written(alloc, 1, count),
-        Call::InterleavingOfSteps => first_has_all(alloc, 1, number, count),
-        Call::InterleavingOfSessions => first_has_all(alloc, count, 1, count),
-        Call::ListedEntries => line_is_listed(alloc, count),
-        Call::LinesOfEntries => entries_are_told(alloc, count),
-        Call::PlanOfEntries => entries_are_planned(alloc, count),
-        Call::PlanOfItems => items_are_planned(alloc, count),
-        Call::TextOfEntries => entries_are_written(alloc, count),
-        Call::TextOfReplies => replies_are_written(alloc, count),
-        Call::FreeItems => free_run_is_written(alloc, count),
-    }
+    Ok(match call {
+        Call::TableOfRows => table_is_written(alloc, count, 1)?,
+        Call::TableOfColumns => table_is_written(alloc, 1, count)?,
+        Call::InterleavingOfSteps => first_has_all(alloc, 1, number, count)?,
+        Call::InterleavingOfSessions => first_has_all(alloc, count, 1, count)?,
+        Call::ListedEntries => line_is_listed(alloc, count)?,
+        Call::LinesOfEntries => entries_are_told(alloc, count)?,
+        Call::PlanOfEntries => entries_are_planned(alloc, count)?,
+        Call::PlanOfItems => items_are_planned(alloc, count)?,
+        Call::TextOfEntries => entries_are_written(alloc, count)?,
+        Call::TextOfReplies => replies_are_written(alloc, count)?,
+        Call::FreeItems => free_run_is_written(alloc, count)?,
+    })
 }
 
 #[test]

@@ -24,14 +24,14 @@ pub(crate) enum Ending {
     Write,
 }
 
-fn ending_of(ended: Result<Ended, ReportFault>) -> Result<Ending, &'static str> {
+fn ending_of(ended: Result<Ended, ReportFault>) -> Result<Ending, AllocError> {
     match ended {
         Ok(Ended::Whole) => Ok(Ending::Whole),
         Ok(Ended::Invalid) => Ok(Ending::Invalid),
         Err(ReportFault::SetupFailed { .. }) => Ok(Ending::SetupFails),
         Err(ReportFault::SetupWaits) => Ok(Ending::SetupWaits),
         Err(ReportFault::Write) => Ok(Ending::Write),
-        Err(ReportFault::Memory) => Err("out of memory"),
+        Err(ReportFault::Memory) => Err(AllocError),
     }
 }
 
@@ -59,11 +59,8 @@ pub(crate) fn report(
     text: &str,
     items: &[HistItem<'_>],
     puts: (usize, usize),
-) -> Result<Reported, &'static str> {
-    let spec = match parse_spec(alloc, text) {
-        Ok(spec) => spec,
-        Err(_) => return Err("out of memory"),
-    };
+) -> Result<Reported, Fail> {
+    let spec = parse_spec(alloc, text)?;
     let mut out = Takes::new(puts.0);
     let mut notes = Takes::new(puts.1);
     let ended = write_report(alloc, &spec, entries_of(&spec), items, &mut out, &mut notes);
@@ -183,7 +180,7 @@ fn teardowns_fail(rt: HostRuntime) -> Result<(), Fail> {
     says(&rt, rt.alloc(), text, &items, (out, notes, Ending::Whole))
 }
 
-fn ending_after(alloc: Global, puts: (usize, usize)) -> Result<Ending, &'static str> {
+fn ending_after(alloc: Global, puts: (usize, usize)) -> Result<Ending, Fail> {
     let items = [launch(1, 0), done(1), launch(1, 1), done(1), leave(1)];
     let text = "session s step a { BEGIN } step b { COMMIT } permutation a(*) b";
     Ok(report(alloc, text, &items, puts)?.ending)

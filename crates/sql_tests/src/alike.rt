@@ -3,7 +3,7 @@
 use crate::asked::{block_of, holds, is_same};
 use sql_parser::Role;
 use sql_trees::{Key, Level, Stmt};
-use std::alloc::Global;
+use std::alloc::{AllocError, Global};
 use std::process::Abort;
 
 // Statements of a session.
@@ -230,22 +230,29 @@ const UNLIKE: [(&str, &str); 27] = [
     ),
 ];
 
-fn all_are(rt: &impl Abort, alloc: Global, role: Role, same: bool, rows: &[(&str, &str)]) {
+fn all_are(
+    rt: &impl Abort,
+    alloc: Global,
+    role: Role,
+    same: bool,
+    rows: &[(&str, &str)],
+) -> Result<(), AllocError> {
     for (text, other) in rows {
-        let so = is_same(alloc, role, *text, *other) == Some(same);
+        let so = is_same(alloc, role, *text, *other)? == Some(same);
         holds(rt, so, *text);
     }
+    Ok(())
 }
 
 #[test]
-fn texts_of_one_block(rt: HostRuntime) {
-    all_are(&rt, rt.alloc(), Role::Session, true, STATEMENTS.as_slice());
-    all_are(&rt, rt.alloc(), Role::Main, true, TABLES.as_slice());
+fn texts_of_one_block(rt: HostRuntime) -> Result<(), AllocError> {
+    all_are(&rt, rt.alloc(), Role::Session, true, STATEMENTS.as_slice())?;
+    all_are(&rt, rt.alloc(), Role::Main, true, TABLES.as_slice())
 }
 
 #[test]
-fn texts_of_blocks_that_differ(rt: HostRuntime) {
-    all_are(&rt, rt.alloc(), Role::Main, false, UNLIKE.as_slice());
+fn texts_of_blocks_that_differ(rt: HostRuntime) -> Result<(), AllocError> {
+    all_are(&rt, rt.alloc(), Role::Main, false, UNLIKE.as_slice())
 }
 
 // What kind of statement it is.
@@ -269,14 +276,14 @@ fn kind(stmt: &Stmt<'_>) -> &'static str {
 }
 
 // Whether a main block's text is one statement of this kind.
-fn is_one(alloc: Global, text: &str, told: &str) -> bool {
-    let Ok(block) = block_of(alloc, Role::Main, text) else {
-        return false;
+fn is_one(alloc: Global, text: &str, told: &str) -> Result<bool, AllocError> {
+    let Some(block) = block_of(alloc, Role::Main, text)? else {
+        return Ok(false);
     };
-    match block.stmts() {
+    Ok(match block.stmts() {
         [stmt] => kind(stmt) == told,
         _ => false,
-    }
+    })
 }
 
 const KINDS: [(&str, &str); 15] = [
@@ -310,10 +317,11 @@ const KINDS: [(&str, &str); 15] = [
 ];
 
 #[test]
-fn kinds_of_statements(rt: HostRuntime) {
+fn kinds_of_statements(rt: HostRuntime) -> Result<(), AllocError> {
     for (text, told) in KINDS.as_slice() {
-        holds(&rt, is_one(rt.alloc(), *text, *told), *text);
+        holds(&rt, is_one(rt.alloc(), *text, *told)?, *text);
     }
+    Ok(())
 }
 
 // Whether the keys have columns at these places, the first of them the primary one.
@@ -331,18 +339,19 @@ fn are_keys(keys: &[Key], places: [&[u32]; 2]) -> bool {
 }
 
 // Whether a main block's text begins with a CREATE TABLE of these keys.
-fn has_keys(alloc: Global, text: &str, places: [&[u32]; 2]) -> bool {
-    let Ok(block) = block_of(alloc, Role::Main, text) else {
-        return false;
+fn has_keys(alloc: Global, text: &str, places: [&[u32]; 2]) -> Result<bool, AllocError> {
+    let Some(block) = block_of(alloc, Role::Main, text)? else {
+        return Ok(false);
     };
-    match block.stmts().first() {
+    Ok(match block.stmts().first() {
         Some(Stmt::CreateTable(create)) => are_keys(&create.keys, places),
         _ => false,
-    }
+    })
 }
 
 #[test]
-fn keys_by_the_places_of_their_columns(rt: HostRuntime) {
+fn keys_by_the_places_of_their_columns(rt: HostRuntime) -> Result<(), AllocError> {
     let text = "CREATE TABLE t (a int, b int UNIQUE, c int, PRIMARY KEY (c, a))";
-    holds(&rt, has_keys(rt.alloc(), text, [&[2, 0], &[1]]), text);
+    holds(&rt, has_keys(rt.alloc(), text, [&[2, 0], &[1]])?, text);
+    Ok(())
 }

@@ -1,9 +1,8 @@
 //! Expressions at the front of a text, and what they are read as.
 
-use crate::asked::{holds, is_no_expression, is_read_as, tokens_of};
-use sql_expressions::{Parsed, parse_expr};
+use crate::asked::{front_of, holds, is_no_expression, is_read_as};
 use sql_trees::{Expr, Operator, Truth};
-use std::alloc::Global;
+use std::alloc::{AllocError, Global};
 
 // A text, the depth of the expression at its front, how many tokens stand behind it, and the expression with each operator in parentheses.
 const READ: [(&str, usize, usize, &str); 47] = [
@@ -80,18 +79,20 @@ const REFUSED: [(&str, &str); 14] = [
 ];
 
 #[test]
-fn expressions_in_parentheses(rt: HostRuntime) {
+fn expressions_in_parentheses(rt: HostRuntime) -> Result<(), AllocError> {
     for (text, depth, left, plain) in READ.as_slice() {
-        let read = is_read_as(rt.alloc(), (*text, *depth, *left), *plain);
+        let read = is_read_as(rt.alloc(), (*text, *depth, *left), *plain)?;
         holds(&rt, read, *text);
     }
+    Ok(())
 }
 
 #[test]
-fn texts_that_are_no_expressions(rt: HostRuntime) {
+fn texts_that_are_no_expressions(rt: HostRuntime) -> Result<(), AllocError> {
     for (text, fault) in REFUSED.as_slice() {
-        holds(&rt, is_no_expression(rt.alloc(), *text, *fault), *text);
+        holds(&rt, is_no_expression(rt.alloc(), *text, *fault)?, *text);
     }
+    Ok(())
 }
 
 fn operator_text(operator: Operator) -> &'static str {
@@ -154,14 +155,11 @@ fn top(expr: &Expr<'_>) -> &'static str {
 }
 
 // Whether this stands at the top of the expression that the text is.
-fn is_at_top(alloc: Global, text: &str, told: &str) -> bool {
-    let Some(tokens) = tokens_of(alloc, text) else {
-        return false;
-    };
-    match parse_expr(alloc, text.len(), &tokens) {
-        Ok((Parsed { expr, .. }, [])) => top(&expr) == told,
+fn is_at_top(alloc: Global, text: &str, told: &str) -> Result<bool, AllocError> {
+    Ok(match front_of(alloc, text)? {
+        Some((parsed, 0)) => top(&parsed.expr) == told,
         _ => false,
-    }
+    })
 }
 
 const TOPS: [(&str, &str); 36] = [
@@ -204,8 +202,9 @@ const TOPS: [(&str, &str); 36] = [
 ];
 
 #[test]
-fn each_form_at_the_top(rt: HostRuntime) {
+fn each_form_at_the_top(rt: HostRuntime) -> Result<(), AllocError> {
     for (text, told) in TOPS.as_slice() {
-        holds(&rt, is_at_top(rt.alloc(), *text, *told), *text);
+        holds(&rt, is_at_top(rt.alloc(), *text, *told)?, *text);
     }
+    Ok(())
 }

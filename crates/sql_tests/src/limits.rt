@@ -80,30 +80,37 @@ fn nested(alloc: Global, times: usize, parts: [&str; 5]) -> Result<String, Alloc
 }
 
 // Whether the nested text is a block of so many statements.
-fn is_block_of(alloc: Global, times: usize, parts: [&str; 5], stmts: usize) -> bool {
-    let Ok(text) = nested(alloc, times, parts) else {
-        return false;
-    };
-    match block_of(alloc, Role::Session, &text) {
-        Ok(block) => block.stmts().len() == stmts,
-        Err(_) => false,
+fn is_block_of(
+    alloc: Global,
+    times: usize,
+    parts: [&str; 5],
+    stmts: usize,
+) -> Result<bool, AllocError> {
+    let text = nested(alloc, times, parts)?;
+    match block_of(alloc, Role::Session, &text)? {
+        Some(block) => Ok(block.stmts().len() == stmts),
+        None => Ok(false),
     }
 }
 
 // Whether the nested text is refused with this fault.
-fn is_no_block(alloc: Global, times: usize, parts: [&str; 5], fault: &str) -> bool {
-    match nested(alloc, times, parts) {
-        Ok(text) => is_refused(alloc, Role::Session, &text, fault),
-        Err(_) => false,
-    }
+fn is_no_block(
+    alloc: Global,
+    times: usize,
+    parts: [&str; 5],
+    fault: &str,
+) -> Result<bool, AllocError> {
+    let text = nested(alloc, times, parts)?;
+    is_refused(alloc, Role::Session, &text, fault)
 }
 
 #[test]
-fn depth_and_length(rt: HostRuntime) {
+fn depth_and_length(rt: HostRuntime) -> Result<(), AllocError> {
     for (times, parts, stmts) in READ {
-        holds(&rt, is_block_of(rt.alloc(), times, parts, stmts), parts[2]);
+        holds(&rt, is_block_of(rt.alloc(), times, parts, stmts)?, parts[2]);
     }
     for (times, parts, fault) in REFUSED {
-        holds(&rt, is_no_block(rt.alloc(), times, parts, fault), fault);
+        holds(&rt, is_no_block(rt.alloc(), times, parts, fault)?, fault);
     }
+    Ok(())
 }

@@ -3,7 +3,7 @@
 use crate::asked::{block_of, holds};
 use sql_parser::Role;
 use sql_trees::{Lock, Policy, Stmt, Strength};
-use std::alloc::Global;
+use std::alloc::{AllocError, Global};
 
 // SELECTs of a table by a condition, with one sort key, and what they lock their rows with.
 const LOCKS: [(&str, Strength, Policy); 12] = [
@@ -84,22 +84,23 @@ fn has_lock(stmt: &Stmt<'_>, lock: Option<Lock>) -> bool {
 }
 
 // Whether the text is one such SELECT.
-fn is_read_with(alloc: Global, text: &str, lock: Option<Lock>) -> bool {
-    let Ok(block) = block_of(alloc, Role::Session, text) else {
-        return false;
+fn is_read_with(alloc: Global, text: &str, lock: Option<Lock>) -> Result<bool, AllocError> {
+    let Some(block) = block_of(alloc, Role::Session, text)? else {
+        return Ok(false);
     };
-    match block.stmts() {
+    Ok(match block.stmts() {
         [stmt] => has_lock(stmt, lock),
         _ => false,
-    }
+    })
 }
 
 #[test]
-fn strengths_and_policies(rt: HostRuntime) {
+fn strengths_and_policies(rt: HostRuntime) -> Result<(), AllocError> {
     for (text, strength, policy) in LOCKS {
         let lock = Lock { strength, policy };
-        holds(&rt, is_read_with(rt.alloc(), text, Some(lock)), text);
+        holds(&rt, is_read_with(rt.alloc(), text, Some(lock))?, text);
     }
     let text = "SELECT share nowait FROM no WHERE skip ORDER BY key";
-    holds(&rt, is_read_with(rt.alloc(), text, None), text);
+    holds(&rt, is_read_with(rt.alloc(), text, None)?, text);
+    Ok(())
 }

@@ -1,11 +1,12 @@
 //! Each call passes where any one allocation fails too: then it answers Memory, and the next one succeeds.
-//! Run with `rt try --test --fail-alloc N` for each N.
+//! `bench/allocations.sh sql_tests` refuses each allocation in turn.
 
 use crate::asked::{block_of, holds, tokens_of};
 use iso_lexer::{At, Span, SqlTok};
 use sql_expressions::parse_expr;
 use sql_parser::Role;
 use sql_trees::{SqlFault, classified};
+use std::alloc::AllocError;
 
 // A block with each kind of statement.
 const ALL_KINDS: &str = "BEGIN ISOLATION LEVEL REPEATABLE READ; SET deadlock_timeout = '1s'; \
@@ -16,24 +17,25 @@ const ALL_KINDS: &str = "BEGIN ISOLATION LEVEL REPEATABLE READ; SET deadlock_tim
 
 #[test]
 fn want_of_memory_for_a_block(rt: HostRuntime) {
-    if let Err(fault) = block_of(rt.alloc(), Role::Main, ALL_KINDS) {
-        holds(&rt, matches!(fault, SqlFault::Memory), ALL_KINDS);
-        let again = block_of(rt.alloc(), Role::Main, ALL_KINDS).is_ok();
-        holds(&rt, again, ALL_KINDS);
-    }
+    let read = match block_of(rt.alloc(), Role::Main, ALL_KINDS) {
+        Ok(read) => read.is_some(),
+        Err(_) => matches!(block_of(rt.alloc(), Role::Main, ALL_KINDS), Ok(Some(_))),
+    };
+    holds(&rt, read, ALL_KINDS);
 }
 
 #[test]
-fn want_of_memory_for_an_expression(rt: HostRuntime) {
+fn want_of_memory_for_an_expression(rt: HostRuntime) -> Result<(), AllocError> {
     let text = "a + 1 in ( - b , ( 2 || 'c' ) ) or not d between 1 and 2 and e is not null";
-    let Some(tokens) = tokens_of(rt.alloc(), text) else {
-        return;
+    let Some(tokens) = tokens_of(rt.alloc(), text)? else {
+        return Ok(holds(&rt, false, text));
     };
     if let Err(fault) = parse_expr(rt.alloc(), text.len(), &tokens) {
         holds(&rt, matches!(fault, SqlFault::Memory), text);
         let again = parse_expr(rt.alloc(), text.len(), &tokens).is_ok();
         holds(&rt, again, text);
     }
+    Ok(())
 }
 
 #[test]

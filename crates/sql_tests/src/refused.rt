@@ -2,7 +2,7 @@
 
 use crate::asked::{holds, is_refused};
 use sql_parser::Role;
-use std::alloc::Global;
+use std::alloc::{AllocError, Global};
 use std::process::Abort;
 
 // What makes and drops tables, in a main block.
@@ -353,16 +353,22 @@ const CHANGES: [(&str, &str); 37] = [
     ),
 ];
 
-fn all_refused(rt: &impl Abort, alloc: Global, role: Role, rows: &[(&str, &str)]) {
+fn all_refused(
+    rt: &impl Abort,
+    alloc: Global,
+    role: Role,
+    rows: &[(&str, &str)],
+) -> Result<(), AllocError> {
     for (text, fault) in rows {
-        holds(rt, is_refused(alloc, role, *text, *fault), *text);
+        holds(rt, is_refused(alloc, role, *text, *fault)?, *text);
     }
+    Ok(())
 }
 
 #[test]
-fn faults_and_their_places(rt: HostRuntime) {
-    all_refused(&rt, rt.alloc(), Role::Main, TABLES.as_slice());
-    all_refused(&rt, rt.alloc(), Role::Session, STATEMENTS.as_slice());
-    all_refused(&rt, rt.alloc(), Role::Session, LOCKS.as_slice());
-    all_refused(&rt, rt.alloc(), Role::Session, CHANGES.as_slice());
+fn faults_and_their_places(rt: HostRuntime) -> Result<(), AllocError> {
+    all_refused(&rt, rt.alloc(), Role::Main, TABLES.as_slice())?;
+    all_refused(&rt, rt.alloc(), Role::Session, STATEMENTS.as_slice())?;
+    all_refused(&rt, rt.alloc(), Role::Session, LOCKS.as_slice())?;
+    all_refused(&rt, rt.alloc(), Role::Session, CHANGES.as_slice())
 }

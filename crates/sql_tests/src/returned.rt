@@ -3,7 +3,7 @@
 use crate::asked::{block_of, holds};
 use sql_parser::Role;
 use sql_trees::{Item, Stmt};
-use std::alloc::Global;
+use std::alloc::{AllocError, Global};
 
 // What kind of item it is.
 fn kind(item: &Item<'_>) -> &'static str {
@@ -41,14 +41,19 @@ fn is_change(stmt: &Stmt<'_>, passes: bool, kinds: [&str; 2]) -> bool {
 }
 
 // Whether a session's text is one such change.
-fn is_read_so(alloc: Global, text: &str, passes: bool, kinds: [&str; 2]) -> bool {
-    let Ok(block) = block_of(alloc, Role::Session, text) else {
-        return false;
+fn is_read_so(
+    alloc: Global,
+    text: &str,
+    passes: bool,
+    kinds: [&str; 2],
+) -> Result<bool, AllocError> {
+    let Some(block) = block_of(alloc, Role::Session, text)? else {
+        return Ok(false);
     };
-    match block.stmts() {
+    Ok(match block.stmts() {
         [stmt] => is_change(stmt, passes, kinds),
         _ => false,
-    }
+    })
 }
 
 // Changes, whether they pass over taken keys, and the kinds of what they return.
@@ -105,8 +110,9 @@ const CHANGES: [(&str, bool, [&str; 2]); 13] = [
 ];
 
 #[test]
-fn changes_and_what_they_return(rt: HostRuntime) {
+fn changes_and_what_they_return(rt: HostRuntime) -> Result<(), AllocError> {
     for (text, passes, kinds) in CHANGES {
-        holds(&rt, is_read_so(rt.alloc(), text, passes, kinds), text);
+        holds(&rt, is_read_so(rt.alloc(), text, passes, kinds)?, text);
     }
+    Ok(())
 }

@@ -1,7 +1,6 @@
-//! With ample memory none is wanting, however much a text lists. Each case is asked again where an allocation was refused.
+//! With ample memory none is wanting, however much a text lists.
 
-use crate::asked::{block_of, holds, tokens_of};
-use sql_expressions::{Parsed, parse_expr};
+use crate::asked::{block_of, front_of, holds, tokens_of};
 use sql_parser::Role;
 use sql_trees::{Expr, Stmt};
 use std::alloc::{AllocError, Global};
@@ -145,16 +144,20 @@ fn count_in(listed: Listed, stmt: &Stmt<'_>) -> usize {
 }
 
 /// Whether this is a block whose first statement lists the numbered parts and so many more.
-fn is_listed(alloc: Global, listed: Listed, parts: Parts, size: usize, more: usize) -> bool {
-    let Ok(text) = text_of(alloc, parts, size) else {
-        return false;
-    };
-    let Ok(block) = block_of(alloc, Role::Main, text.as_str()) else {
-        return false;
+fn is_listed(
+    alloc: Global,
+    listed: Listed,
+    parts: Parts,
+    size: usize,
+    more: usize,
+) -> Result<bool, AllocError> {
+    let text = text_of(alloc, parts, size)?;
+    let Some(block) = block_of(alloc, Role::Main, text.as_str())? else {
+        return Ok(false);
     };
     match block.stmts().first() {
-        Some(stmt) => count_in(listed, stmt) == size.saturating_add(more),
-        None => false,
+        Some(stmt) => Ok(count_in(listed, stmt) == size.saturating_add(more)),
+        None => Ok(false),
     }
 }
 
@@ -220,52 +223,61 @@ const LISTS: [(Listed, usize, Parts); 13] = [
 ];
 
 /// At each size so much is listed.
-fn are_listed(rt: &impl Abort, alloc: Global, listed: Listed, parts: Parts, more: usize) {
+fn are_listed(
+    rt: &impl Abort,
+    alloc: Global,
+    listed: Listed,
+    parts: Parts,
+    more: usize,
+) -> Result<(), AllocError> {
     for size in SIZES {
-        let told = is_listed(alloc, listed, parts, size, more)
-            || is_listed(alloc, listed, parts, size, more);
+        let told = is_listed(alloc, listed, parts, size, more)?;
         holds(rt, told, parts[0]);
     }
+    Ok(())
 }
 
 #[test]
-fn statements_of_each_size(rt: HostRuntime) {
+fn statements_of_each_size(rt: HostRuntime) -> Result<(), AllocError> {
     for (listed, more, parts) in LISTS {
-        are_listed(&rt, rt.alloc(), listed, parts, more);
+        are_listed(&rt, rt.alloc(), listed, parts, more)?;
     }
+    Ok(())
 }
 
 /// Whether this is a block of so many statements.
-fn is_block_of(alloc: Global, parts: Parts, size: usize) -> bool {
-    let Ok(text) = text_of(alloc, parts, size) else {
-        return false;
-    };
-    match block_of(alloc, Role::Session, text.as_str()) {
-        Ok(block) => block.stmts().len() == size,
-        Err(_) => false,
+fn is_block_of(alloc: Global, parts: Parts, size: usize) -> Result<bool, AllocError> {
+    let text = text_of(alloc, parts, size)?;
+    match block_of(alloc, Role::Session, text.as_str())? {
+        Some(block) => Ok(block.stmts().len() == size),
+        None => Ok(false),
     }
 }
 
 // Of more than 256 statements there is no block.
 #[test]
-fn blocks_of_each_size(rt: HostRuntime) {
+fn blocks_of_each_size(rt: HostRuntime) -> Result<(), AllocError> {
     for size in [0, 1, 5, 9, 41, 101, 256] {
         for parts in [["", "SELECT ", ";", ""], ["", "COMMIT -- ", "\n;", ""]] {
-            let told = is_block_of(rt.alloc(), parts, size) || is_block_of(rt.alloc(), parts, size);
-            holds(&rt, told, parts[1]);
+            holds(&rt, is_block_of(rt.alloc(), parts, size)?, parts[1]);
         }
     }
+    Ok(())
 }
 
 /// Whether the text has so many tokens, each with its keyword, and is an expression.
-fn is_expression_of(alloc: Global, parts: Parts, size: usize, count: usize) -> bool {
-    let Ok(text) = text_of(alloc, parts, size) else {
-        return false;
+fn is_expression_of(
+    alloc: Global,
+    parts: Parts,
+    size: usize,
+    count: usize,
+) -> Result<bool, AllocError> {
+    let text = text_of(alloc, parts, size)?;
+    let Some(tokens) = tokens_of(alloc, text.as_str())? else {
+        return Ok(false);
     };
-    let Some(tokens) = tokens_of(alloc, text.as_str()) else {
-        return false;
-    };
-    tokens.len() == count && matches!(parse_expr(alloc, text.len(), &tokens), Ok((_, [])))
+    let is_whole = matches!(front_of(alloc, text.as_str())?, Some((_, 0)));
+    Ok(is_whole && tokens.len() == count)
 }
 
 // The text, and how many tokens stand outside its numbered parts, which have two each.
@@ -275,31 +287,27 @@ const EXPRESSIONS: [(Parts, usize); 2] = [
 ];
 
 #[test]
-fn expressions_of_each_size(rt: HostRuntime) {
+fn expressions_of_each_size(rt: HostRuntime) -> Result<(), AllocError> {
     for (parts, more) in EXPRESSIONS {
         for size in SIZES {
-            let told = is_expression_of(rt.alloc(), parts, size, 2 * size + more)
-                || is_expression_of(rt.alloc(), parts, size, 2 * size + more);
+            let told = is_expression_of(rt.alloc(), parts, size, 2 * size + more)?;
             holds(&rt, told, parts[0]);
         }
     }
+    Ok(())
 }
 
 /// Whether this is a statement that lists so many twice, one list after the other.
-fn lists_twice(alloc: Global, parts: Parts, more: Parts, size: usize) -> bool {
-    let (Ok(mut text), Ok(second)) = (text_of(alloc, parts, size), text_of(alloc, more, size))
-    else {
-        return false;
-    };
-    if text.push_str(second.as_str()).is_err() {
-        return false;
-    }
-    let Ok(block) = block_of(alloc, Role::Main, text.as_str()) else {
-        return false;
+fn lists_twice(alloc: Global, parts: Parts, more: Parts, size: usize) -> Result<bool, AllocError> {
+    let mut text = text_of(alloc, parts, size)?;
+    let second = text_of(alloc, more, size)?;
+    text.push_str(second.as_str())?;
+    let Some(block) = block_of(alloc, Role::Main, text.as_str())? else {
+        return Ok(false);
     };
     match block.stmts().first() {
-        Some(stmt) => key_columns(stmt).max(insert_columns(stmt)) == size.saturating_add(1),
-        None => false,
+        Some(stmt) => Ok(key_columns(stmt).max(insert_columns(stmt)) == size.saturating_add(1)),
+        None => Ok(false),
     }
 }
 
@@ -316,12 +324,11 @@ const TWICE: [(Parts, Parts); 2] = [
 ];
 
 #[test]
-fn keys_and_columns_of_each_size(rt: HostRuntime) {
+fn keys_and_columns_of_each_size(rt: HostRuntime) -> Result<(), AllocError> {
     for (parts, more) in TWICE {
         for size in SIZES {
-            let told = lists_twice(rt.alloc(), parts, more, size)
-                || lists_twice(rt.alloc(), parts, more, size);
-            holds(&rt, told, parts[0]);
+            holds(&rt, lists_twice(rt.alloc(), parts, more, size)?, parts[0]);
         }
     }
+    Ok(())
 }

@@ -5,7 +5,7 @@ use iso_lexer::{At, Span, SqlTok};
 use sql_equality::{same_stmt, same_stmts, same_text};
 use sql_parser::Role;
 use sql_trees::{Tok, Word, classified, word_of};
-use std::alloc::Global;
+use std::alloc::{AllocError, Global};
 
 // What stands between the quotes of two strings, and whether they are one.
 const STRINGS: [(&str, &str, bool); 8] = [
@@ -27,55 +27,60 @@ fn strings_by_what_they_stand_for(rt: HostRuntime) {
 }
 
 // Whether the token has this keyword.
-fn is_keyword(tok: SqlTok<'_>, word: Word, alloc: Global) -> bool {
+fn is_keyword(tok: SqlTok<'_>, word: Word, alloc: Global) -> Result<bool, AllocError> {
     let token = At {
         tok,
         span: Span { start: 0, end: 6 },
     };
-    let Ok(all) = classified(alloc, &[token]) else {
-        return false;
-    };
-    match all.first() {
+    let all = classified(alloc, &[token])?;
+    Ok(match all.first() {
         Some(found) => matches!(found.tok, Tok::Word(keyword, _) if keyword == word),
         None => false,
-    }
+    })
 }
 
 #[test]
-fn words_have_their_keywords(rt: HostRuntime) {
+fn words_have_their_keywords(rt: HostRuntime) -> Result<(), AllocError> {
     let alloc = rt.alloc();
     holds(&rt, word_of("SeLeCt") == Word::Select, "SeLeCt");
     holds(
         &rt,
-        is_keyword(SqlTok::Word("select"), Word::Select, alloc),
+        is_keyword(SqlTok::Word("select"), Word::Select, alloc)?,
         "select",
     );
     holds(
         &rt,
-        is_keyword(SqlTok::Word("selects"), Word::Plain, alloc),
+        is_keyword(SqlTok::Word("selects"), Word::Plain, alloc)?,
         "selects",
     );
     holds(
         &rt,
-        !is_keyword(SqlTok::Quoted("select"), Word::Select, alloc),
+        !is_keyword(SqlTok::Quoted("select"), Word::Select, alloc)?,
         "\"select\"",
     );
+    Ok(())
 }
 
 // Whether the first statements are one, and whether all are.
-fn are_first_and_all(alloc: Global, text: &str, other: &str, first: bool, all: bool) -> bool {
-    let Ok(read) = block_of(alloc, Role::Main, text) else {
-        return false;
+fn are_first_and_all(
+    alloc: Global,
+    text: &str,
+    other: &str,
+    first: bool,
+    all: bool,
+) -> Result<bool, AllocError> {
+    let Some(read) = block_of(alloc, Role::Main, text)? else {
+        return Ok(false);
     };
-    let Ok(same) = block_of(alloc, Role::Session, other) else {
-        return false;
+    let Some(same) = block_of(alloc, Role::Session, other)? else {
+        return Ok(false);
     };
-    match (read.stmts(), same.stmts()) {
+    Ok(match (read.stmts(), same.stmts()) {
         ([a, ..], [b, ..]) => {
             same_stmt(a, b) == first && same_stmts(read.stmts(), same.stmts()) == all
         }
         _ => false,
-    }
+    })
 }
 
 // Two blocks, whether their first statements are one, and whether all are.
@@ -97,29 +102,31 @@ const PAIRS: [(&str, &str, bool, bool); 4] = [
 ];
 
 #[test]
-fn statements_by_decoded_names(rt: HostRuntime) {
+fn statements_by_decoded_names(rt: HostRuntime) -> Result<(), AllocError> {
     for (text, other, first, all) in PAIRS {
         holds(
             &rt,
-            are_first_and_all(rt.alloc(), text, other, first, all),
+            are_first_and_all(rt.alloc(), text, other, first, all)?,
             text,
         );
     }
+    Ok(())
 }
 
-// Whether blocks of one text in two places are one.
-fn is_one_in_both_places(alloc: Global, text: &str) -> bool {
-    let Ok(read) = block_of(alloc, Role::Session, text) else {
-        return true;
+// Whether blocks of one text in two places are two.
+fn are_two_in_two_places(alloc: Global, text: &str) -> Result<bool, AllocError> {
+    let Some(read) = block_of(alloc, Role::Session, text)? else {
+        return Ok(false);
     };
-    match block_of(alloc, Role::Main, text) {
-        Ok(elsewhere) => read.same(&elsewhere),
-        Err(_) => true,
+    match block_of(alloc, Role::Main, text)? {
+        Some(elsewhere) => Ok(!read.same(&elsewhere)),
+        None => Ok(false),
     }
 }
 
 #[test]
-fn a_block_stands_in_its_place(rt: HostRuntime) {
+fn a_block_stands_in_its_place(rt: HostRuntime) -> Result<(), AllocError> {
     let text = "SELECT a FROM t; COMMIT";
-    holds(&rt, !is_one_in_both_places(rt.alloc(), text), text);
+    holds(&rt, are_two_in_two_places(rt.alloc(), text)?, text);
+    Ok(())
 }

@@ -49,6 +49,16 @@ fn count_statements(alloc: Global, text: &str) -> anyhow::Result<usize> {
     Ok(block.stmts().len())
 }
 
+/// Whether a text begins so, asked again where memory was refused.
+fn begins_so(alloc: Global, text: &str, select: bool) -> bool {
+    for _ in 0..2 {
+        if let Ok(begins) = begins_with_select(alloc, text) {
+            return begins == select;
+        }
+    }
+    false
+}
+
 /// Whether the examples of tokens and expressions answer this for a text.
 fn are_read(alloc: Global, text: &str, select: bool, depth: usize) -> bool {
     for _ in 0..2 {
@@ -77,8 +87,7 @@ fn are_blocks(alloc: Global, text: &str, other: &str, count: usize) -> bool {
 fn the_examples_of_sql(rt: HostRuntime) {
     let alloc = rt.alloc();
     holds(&rt, are_read(alloc, "a + 1 > 2", false, 2), "a + 1 > 2");
-    let told = matches!(begins_with_select(alloc, "select 1"), Ok(true) | Err(_));
-    holds(&rt, told, "select 1");
+    holds(&rt, begins_so(alloc, "select 1", true), "select 1");
     holds(
         &rt,
         are_blocks(alloc, "SELECT A; COMMIT", "select \"a\"; commit;", 2),

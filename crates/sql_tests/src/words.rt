@@ -93,72 +93,73 @@ fn around(alloc: Global, front: &str, word: &str, back: &str) -> Result<String, 
 }
 
 // Whether the word is refused behind this front, with this fault.
-fn is_refused_behind(alloc: Global, front: &str, word: &str, fault: &str) -> bool {
-    match around(alloc, front, word, "") {
-        Ok(text) => is_refused(alloc, Role::Main, &text, fault),
-        Err(_) => false,
-    }
+fn is_refused_behind(
+    alloc: Global,
+    front: &str,
+    word: &str,
+    fault: &str,
+) -> Result<bool, AllocError> {
+    let text = around(alloc, front, word, "")?;
+    is_refused(alloc, Role::Main, &text, fault)
 }
 
 // Whether the word is read between this front and back.
-fn is_read(alloc: Global, front: &str, word: &str, back: &str) -> bool {
-    match around(alloc, front, word, back) {
-        Ok(text) => block_of(alloc, Role::Main, &text).is_ok(),
-        Err(_) => false,
-    }
+fn is_read(alloc: Global, front: &str, word: &str, back: &str) -> Result<bool, AllocError> {
+    let text = around(alloc, front, word, back)?;
+    Ok(block_of(alloc, Role::Main, &text)?.is_some())
 }
 
-fn all_refused(rt: &impl Abort, alloc: Global, front: &str, words: &[&str], fault: &str) {
+fn all_refused(
+    rt: &impl Abort,
+    alloc: Global,
+    front: &str,
+    words: &[&str],
+    fault: &str,
+) -> Result<(), AllocError> {
     for word in words {
-        holds(rt, is_refused_behind(alloc, front, *word, fault), *word);
+        holds(rt, is_refused_behind(alloc, front, *word, fault)?, *word);
     }
+    Ok(())
 }
 
-fn all_read(rt: &impl Abort, alloc: Global, front: &str, words: &[&str], back: &str) {
+fn all_read(
+    rt: &impl Abort,
+    alloc: Global,
+    front: &str,
+    words: &[&str],
+    back: &str,
+) -> Result<(), AllocError> {
     for word in words {
-        holds(rt, is_read(alloc, front, *word, back), *word);
+        holds(rt, is_read(alloc, front, *word, back)?, *word);
     }
+    Ok(())
 }
 
 #[test]
-fn words_that_are_no_alias(rt: HostRuntime) {
+fn words_that_are_no_alias(rt: HostRuntime) -> Result<(), AllocError> {
     let front = "SELECT a FROM t ";
     let fault = "Q2 LeftOut at byte 16";
-    all_refused(&rt, rt.alloc(), front, LEFT_OUT.as_slice(), fault);
-    all_refused(&rt, rt.alloc(), front, NAMES_LEFT_OUT.as_slice(), fault);
+    all_refused(&rt, rt.alloc(), front, LEFT_OUT.as_slice(), fault)?;
+    all_refused(&rt, rt.alloc(), front, NAMES_LEFT_OUT.as_slice(), fault)?;
     let fault = "Q1 Syntax at byte 16";
-    all_refused(&rt, rt.alloc(), front, NAMES.as_slice(), fault);
+    all_refused(&rt, rt.alloc(), front, NAMES.as_slice(), fault)
 }
 
 #[test]
-fn words_that_are_no_names(rt: HostRuntime) {
+fn words_that_are_no_names(rt: HostRuntime) -> Result<(), AllocError> {
     let front = "DROP TABLE ";
-    all_refused(
-        &rt,
-        rt.alloc(),
-        front,
-        LEFT_OUT.as_slice(),
-        "Q2 LeftOut at byte 11",
-    );
-    all_refused(
-        &rt,
-        rt.alloc(),
-        front,
-        NO_NAMES.as_slice(),
-        "Q1 Syntax at byte 11",
-    );
+    let fault = "Q2 LeftOut at byte 11";
+    all_refused(&rt, rt.alloc(), front, LEFT_OUT.as_slice(), fault)?;
+    let fault = "Q1 Syntax at byte 11";
+    all_refused(&rt, rt.alloc(), front, NO_NAMES.as_slice(), fault)
 }
 
 #[test]
-fn words_that_are_names(rt: HostRuntime) {
-    all_read(
-        &rt,
-        rt.alloc(),
-        "DROP TABLE ",
-        NAMES_LEFT_OUT.as_slice(),
-        "",
-    );
-    all_read(&rt, rt.alloc(), "DROP TABLE ", NAMES.as_slice(), "");
-    all_read(&rt, rt.alloc(), "DROP TABLE \"", LEFT_OUT.as_slice(), "\"");
-    all_read(&rt, rt.alloc(), "DROP TABLE \"", NO_NAMES.as_slice(), "\"");
+fn words_that_are_names(rt: HostRuntime) -> Result<(), AllocError> {
+    let front = "DROP TABLE ";
+    all_read(&rt, rt.alloc(), front, NAMES_LEFT_OUT.as_slice(), "")?;
+    all_read(&rt, rt.alloc(), front, NAMES.as_slice(), "")?;
+    let front = "DROP TABLE \"";
+    all_read(&rt, rt.alloc(), front, LEFT_OUT.as_slice(), "\"")?;
+    all_read(&rt, rt.alloc(), front, NO_NAMES.as_slice(), "\"")
 }

@@ -1,13 +1,12 @@
 //! That a free run's text is that of the run which the gate saw, and of no other.
 
-use crate::asking::holds;
+use crate::asking::{ROOM, holds};
 use crate::gates::LOOKS;
 use iso_lexer::FromStd;
-use permutations::{RunFault, free_spec};
+use permutations::free_spec;
 use session_machine::{Event, Reply};
 use session_threads::Gate;
 use std::alloc::Global;
-use std::process::Abort;
 use std::sync::Wait;
 use std::sync::atomic::{AtomicU64, Ordering};
 use std::test::Fail;
@@ -98,9 +97,9 @@ fn told<R: Threads + Wait + Sync>(
     alloc: Global,
     spec: &str,
     sessions: u64,
-) -> Result<Vec<u8>, RunFault> {
-    let mut text = Vec::new(alloc);
-    let mut notes = Vec::new(alloc);
+) -> Result<Vec<u8>, Fail> {
+    let mut text = Vec::with_capacity(alloc, ROOM)?;
+    let mut notes = Vec::with_capacity(alloc, ROOM)?;
     let mut input = FromStd::new(spec.as_bytes());
     let mut out = FromStd::new(&mut text);
     let mut noted = FromStd::new(&mut notes);
@@ -111,9 +110,7 @@ fn told<R: Threads + Wait + Sync>(
 
 #[test]
 fn a_free_run_is_told_as_it_came(rt: HostRuntime) -> Result<(), Fail> {
-    let Ok(text) = told(&rt, rt.alloc(), THREE, 3) else {
-        return Err(Fail::new("a run ended early"));
-    };
+    let text = told(&rt, rt.alloc(), THREE, 3)?;
     holds(
         &rt,
         text.as_slice() == THREE_BACKWARDS.as_bytes(),

@@ -1,6 +1,6 @@
 //! Runs in which each session's thread runs its script, with no order between sessions. What is asked is the same whatever the schedule was.
 
-use crate::asking::holds;
+use crate::asking::{but_wants, holds};
 use crate::free_gates::{Crossed, Handshake, Reversed};
 use crate::gates::{Meeting, Shut, Telling};
 use crate::telling::was_told;
@@ -39,7 +39,7 @@ fn block<'t>(alloc: Global, text: &'t str, role: Role) -> Result<Block<'t>, Fail
     if text.len() > 1_000 {
         return Err("a long text".into());
     }
-    Ok(parse_block(alloc, text, role).map_err(|_| "a block with a fault")?)
+    Ok(parse_block(alloc, text, role)?)
 }
 
 /// The blocks with these texts; the first so many are the control session's.
@@ -56,17 +56,8 @@ pub fn blocks<'t>(alloc: Global, mains: usize, texts: &[&'t str]) -> Result<Vec<
     Ok(blocks)
 }
 
-/// What a run says that ends in this fault.
-fn fault_text(fault: ThreadFault) -> &'static str {
-    match fault {
-        ThreadFault::ThreadRefused => "no thread could be started",
-        ThreadFault::Memory | ThreadFault::Engine(EngineFault::Memory) => "memory was refused",
-        _ => "a run that ends in a fault",
-    }
-}
-
 /// A run of the blocks, by at most 64 sessions.
-fn ended<'a, 't, G: Gate, R: Threads + Wait + Sync>(
+fn run<'a, 't, G: Gate, R: Threads + Wait + Sync>(
     rt: &R,
     alloc: Global,
     blocks: &'a [Block<'t>],
@@ -77,16 +68,6 @@ fn ended<'a, 't, G: Gate, R: Threads + Wait + Sync>(
         return Err(ThreadFault::Engine(EngineFault::NoSession));
     }
     run_free(rt, alloc, blocks, plan, ListStore::new(alloc), gate)
-}
-
-fn run<'a, 't, G: Gate, R: Threads + Wait + Sync>(
-    rt: &R,
-    alloc: Global,
-    blocks: &'a [Block<'t>],
-    plan: &FreePlan,
-    gate: &G,
-) -> Result<Closed<'a, 't, ListStore>, Fail> {
-    Ok(ended(rt, alloc, blocks, plan, gate).map_err(fault_text)?)
 }
 
 fn is_legal(
@@ -104,8 +85,7 @@ fn is_legal(
 
 /// The number beside key 1, where that is the table's one row.
 fn number_of(engine: &EngineState<'_, '_, ListStore>) -> Result<Option<i32>, Fail> {
-    let rows = engine.visible(0, "t").map_err(|_| "a refusal")?;
-    let Some(rows) = rows else {
+    let Some(rows) = engine.visible(0, "t")? else {
         return Ok(None);
     };
     let [row] = rows.as_slice() else {
@@ -173,7 +153,7 @@ fn fault_of<G: Gate, R: Threads + Wait + Sync>(
     gate: &G,
 ) -> Result<Option<ThreadFault>, Fail> {
     let blocks = blocks(alloc, 2, &ONE)?;
-    Ok(ended(rt, alloc, &blocks, plan, gate).err())
+    Ok(but_wants(run(rt, alloc, &blocks, plan, gate).err())?)
 }
 
 /// Each of so many sessions runs one SELECT; how many events there were.

@@ -1,6 +1,6 @@
 //! The texts of free runs.
 
-use crate::asking::holds;
+use crate::asking::{ROOM, answer_but_wants, holds};
 use crate::free_gates::Handshake;
 use crate::gates::Meeting;
 use iso_lexer::FromStd;
@@ -21,18 +21,23 @@ struct Wrote {
     answer: Result<(), RunFault>,
 }
 
-fn free<G: Gate, R: Threads + Wait + Sync>(rt: &R, alloc: Global, spec: &str, gate: &G) -> Wrote {
+fn free<G: Gate, R: Threads + Wait + Sync>(
+    rt: &R,
+    alloc: Global,
+    spec: &str,
+    gate: &G,
+) -> Result<Wrote, Fail> {
     let mut input = FromStd::new(spec.as_bytes());
-    let mut text = Vec::new(alloc);
-    let mut notes = Vec::new(alloc);
+    let mut text = Vec::with_capacity(alloc, ROOM)?;
+    let mut notes = Vec::with_capacity(alloc, ROOM)?;
     let mut out = FromStd::new(&mut text);
     let mut told = FromStd::new(&mut notes);
     let answer = free_spec(rt, alloc, &mut input, &mut out, &mut told, gate);
-    Wrote {
+    Ok(Wrote {
         text,
         notes,
-        answer,
-    }
+        answer: answer_but_wants(answer)?,
+    })
 }
 
 /// A free run of the spec goes well, and says this.
@@ -42,11 +47,12 @@ fn says<R: Threads + Wait + Sync + Abort>(
     spec: &str,
     text: &str,
     notes: &str,
-) {
-    let wrote = free(rt, alloc, spec, &OpenGate);
+) -> Result<(), Fail> {
+    let wrote = free(rt, alloc, spec, &OpenGate)?;
     holds(rt, wrote.answer.is_ok(), spec);
     holds(rt, wrote.text.as_slice() == text.as_bytes(), text);
     holds(rt, wrote.notes.as_slice() == notes.as_bytes(), notes);
+    Ok(())
 }
 
 #[test]
@@ -73,8 +79,7 @@ step a: statement 2
 
 ",
         "",
-    );
-    Ok(())
+    )
 }
 
 #[test]
@@ -97,8 +102,7 @@ step b: statement 1
         "isolationtester: teardown of session s failed: relation \"u\" does not exist
 isolationtester: teardown failed: table \"u\" does not exist
 ",
-    );
-    Ok(())
+    )
 }
 
 const FIRST: &str = "Parsed test spec with 2 sessions
@@ -114,7 +118,7 @@ fn setups_that_fail_or_wait_are_answered(rt: HostRuntime) -> Result<(), Fail> {
         "setup { CREATE TABLE t (x int); INSERT INTO t VALUES (1); }
 session s setup { SELECT 1/0; } step a { SELECT 1; } session u step b { SELECT 1; }",
         &OpenGate,
-    );
+    )?;
     holds(
         &rt,
         matches!(fails.answer, Err(RunFault::SetupFailed { .. })),
@@ -128,7 +132,7 @@ session s setup { SELECT 1/0; } step a { SELECT 1; } session u step b { SELECT 1
 session s setup { BEGIN; UPDATE t SET x = 2; } step a { SELECT 1; }
 session u setup { UPDATE t SET x = 3; } step b { SELECT 1; }",
         &OpenGate,
-    );
+    )?;
     holds(
         &rt,
         matches!(waits.answer, Err(RunFault::SetupWaits)),
@@ -145,7 +149,7 @@ fn two_workers_of_a_file_are_at_the_gate_at_once(rt: HostRuntime) -> Result<(), 
         rt.alloc(),
         "session s step a { SELECT 1; } session u step b { SELECT 1; }",
         &Handshake::new(),
-    );
+    )?;
     holds(&rt, wrote.answer.is_ok(), "ends");
     Ok(())
 }
@@ -161,7 +165,7 @@ session s3 step a3 { SELECT 1; } session s4 step a4 { SELECT 1; }
 session s5 step a5 { SELECT 1; } session s6 step a6 { SELECT 1; }
 session s7 step a7 { SELECT 1; } session s8 step a8 { SELECT 1; }",
         &gate,
-    );
+    )?;
     holds(&rt, wrote.answer.is_ok(), "ends");
     holds(&rt, gate.met.load(Ordering::SeqCst) == 8, "eight met");
     Ok(())

@@ -4,8 +4,8 @@ use crate::asking::holds;
 use crate::gates::{Meeting, Shut};
 use crate::run_faults::{ends_at_the_gate, run};
 use session_threads::OpenGate;
-use std::alloc::AllocError;
 use std::sync::atomic::{AtomicU64, Ordering};
+use std::test::Fail;
 
 /// Eight sessions of one step each, all of which stand in one permutation.
 const EIGHT: &str = "session s1 step a1 { SELECT 1; } session s2 step a2 { SELECT 1; }
@@ -15,20 +15,20 @@ session s7 step a7 { SELECT 1; } session s8 step a8 { SELECT 1; }
 permutation a1 a2 a3 a4 a5 a6 a7 a8";
 
 #[test]
-fn all_workers_answer_at_once(rt: HostRuntime) -> Result<(), AllocError> {
+fn all_workers_answer_at_once(rt: HostRuntime) -> Result<(), Fail> {
     let gate = Meeting::of(8);
-    let ran = run(&rt, rt.alloc(), EIGHT, &gate);
+    let ran = run(&rt, rt.alloc(), EIGHT, &gate)?;
     holds(&rt, ran.answer.is_ok(), "the run ends");
     holds(&rt, gate.met.load(Ordering::SeqCst) == 8, "eight met");
     Ok(())
 }
 
 #[test]
-fn a_gate_that_admits_nothing_ends_in_gate(rt: HostRuntime) -> Result<(), AllocError> {
+fn a_gate_that_admits_nothing_ends_in_gate(rt: HostRuntime) -> Result<(), Fail> {
     let gate = Shut {
         asked: AtomicU64::new(0),
     };
-    let ran = run(&rt, rt.alloc(), EIGHT, &gate);
+    let ran = run(&rt, rt.alloc(), EIGHT, &gate)?;
     ends_at_the_gate(&rt, &ran, "Parsed test spec with 8 sessions\n");
     holds(&rt, gate.asked.load(Ordering::SeqCst) == 3, "three tries");
     Ok(())
@@ -42,11 +42,11 @@ session s2 step d { DELETE FROM website WHERE hits = 10; } step r { SELECT hits 
 permutation u d c r";
 
 #[test]
-fn the_first_event_of_a_file_is_asked_for_three_times(rt: HostRuntime) -> Result<(), AllocError> {
+fn the_first_event_of_a_file_is_asked_for_three_times(rt: HostRuntime) -> Result<(), Fail> {
     let gate = Shut {
         asked: AtomicU64::new(0),
     };
-    let ran = run(&rt, rt.alloc(), ROWS, &gate);
+    let ran = run(&rt, rt.alloc(), ROWS, &gate)?;
     ends_at_the_gate(&rt, &ran, "Parsed test spec with 2 sessions\n");
     holds(&rt, gate.asked.load(Ordering::SeqCst) == 3, "three tries");
     Ok(())
@@ -70,8 +70,8 @@ hits
 ";
 
 #[test]
-fn a_delete_that_waits_prints_this(rt: HostRuntime) -> Result<(), AllocError> {
-    let ran = run(&rt, rt.alloc(), ROWS, &OpenGate);
+fn a_delete_that_waits_prints_this(rt: HostRuntime) -> Result<(), Fail> {
+    let ran = run(&rt, rt.alloc(), ROWS, &OpenGate)?;
     holds(&rt, ran.answer.is_ok(), "the run ends");
     holds(&rt, ran.text.as_slice() == ROWS_TEXT.as_bytes(), ROWS_TEXT);
     Ok(())

@@ -1,6 +1,6 @@
 //! Runs that the engine or a driver ends while the other threads sleep, and what gates are asked and told.
 
-use crate::asking::holds;
+use crate::asking::{but_wants, holds};
 use crate::free_runs::blocks;
 use crate::giving::{Behind, Counting, Starved, Twice};
 use crate::signs::session_of;
@@ -32,20 +32,23 @@ pub fn directed<G: Gate, R: Threads + Wait + Sync>(
     first: Order,
     then: Order,
     gate: &G,
-) -> Option<ThreadFault> {
+) -> Result<Option<ThreadFault>, ThreadFault> {
     let store = ListStore::new(alloc);
-    run_directed(rt, alloc, blocks, 2, store, Twice { first, then }, gate).err()
+    but_wants(run_directed(rt, alloc, blocks, 2, store, Twice { first, then }, gate).err())
 }
 
-/// The fault in which a directed run ends whose driver is refused memory behind its first order.
+/// The fault in which a directed run ends whose driver is refused memory behind its first order; where the engine is refused it, or a thread, the test ends.
 fn starved<R: Threads + Wait + Sync>(
     rt: &R,
     alloc: Global,
     blocks: &[Block<'_>],
     first: Order,
-) -> Option<ThreadFault> {
+) -> Result<Option<ThreadFault>, ThreadFault> {
     let store = ListStore::new(alloc);
-    run_directed(rt, alloc, blocks, 2, store, Starved { first }, &OpenGate).err()
+    match run_directed(rt, alloc, blocks, 2, store, Starved { first }, &OpenGate).err() {
+        Some(ThreadFault::Memory) => Ok(Some(ThreadFault::Memory)),
+        other => but_wants(other),
+    }
 }
 
 pub const QUERY: Order = Order::Launch {
@@ -62,7 +65,7 @@ fn a_directed_run_ends_where_the_engine_refuses(rt: HostRuntime) -> Result<(), F
         session: 2,
         block: NO_BLOCK,
     };
-    let fault = directed(&rt, alloc, &blocks, QUERY, no_block, &gate);
+    let fault = directed(&rt, alloc, &blocks, QUERY, no_block, &gate)?;
     let expected = ThreadFault::Engine(EngineFault::BlockNotAllowed);
     holds(&rt, fault == Some(expected), "a block that isn't there");
     holds(
@@ -80,7 +83,7 @@ fn a_directed_run_ends_where_an_order_is_nobodys(rt: HostRuntime) -> Result<(), 
     let blocks = blocks(alloc, 4, &TEXTS)?;
     let gate = Counting::new();
     let nobodys = Order::Leave { session: 3 };
-    let fault = directed(&rt, alloc, &blocks, QUERY, nobodys, &gate);
+    let fault = directed(&rt, alloc, &blocks, QUERY, nobodys, &gate)?;
     let expected = ThreadFault::Engine(EngineFault::NoSession);
     holds(&rt, fault == Some(expected), "a session that isn't there");
     holds(&rt, gate.asked() == 2, "asked for what was done");
@@ -91,7 +94,7 @@ fn a_directed_run_ends_where_an_order_is_nobodys(rt: HostRuntime) -> Result<(), 
 fn a_directed_run_ends_where_its_driver_is_refused_memory(rt: HostRuntime) -> Result<(), Fail> {
     let alloc = rt.alloc();
     let blocks = blocks(alloc, 4, &TEXTS)?;
-    let fault = starved(&rt, alloc, &blocks, QUERY);
+    let fault = starved(&rt, alloc, &blocks, QUERY)?;
     holds(&rt, fault == Some(ThreadFault::Memory), "memory");
     Ok(())
 }
@@ -101,7 +104,7 @@ fn a_directed_run_asks_and_tells_each_event_once(rt: HostRuntime) -> Result<(), 
     let alloc = rt.alloc();
     let blocks = blocks(alloc, 4, &TEXTS)?;
     let gate = Counting::new();
-    let fault = directed(&rt, alloc, &blocks, QUERY, Order::Stop, &gate);
+    let fault = directed(&rt, alloc, &blocks, QUERY, Order::Stop, &gate)?;
     holds(&rt, fault.is_none(), "the run ends well");
     holds(&rt, gate.asked() == 2, "a launch and a step are asked for");
     holds(&rt, gate.told() == 2, "and told");
@@ -142,7 +145,7 @@ fn a_free_run_ends_where_the_engine_refuses(rt: HostRuntime) -> Result<(), Fail>
     let blocks = blocks(alloc, 4, &TEXTS)?;
     let plan = plan_of(alloc, &[1, NO_BLOCK], &[2])?;
     let gate = Behind::new();
-    let fault = free(&rt, alloc, &blocks, &plan, &gate).err();
+    let fault = but_wants(free(&rt, alloc, &blocks, &plan, &gate).err())?;
     let expected = ThreadFault::Engine(EngineFault::BlockNotAllowed);
     holds(&rt, fault == Some(expected), "a block that isn't there");
     holds(&rt, gate.told() == 5, "told of what was done");
@@ -166,9 +169,9 @@ fn asks_and_tells<R: Threads + Wait + Sync>(
     alloc: Global,
     blocks: &[Block<'_>],
     plan: &FreePlan,
-) -> Result<bool, Fail> {
+) -> Result<bool, ThreadFault> {
     let gate = Counting::new();
-    let closed = free(rt, alloc, blocks, plan, &gate).map_err(|_| "no closed run")?;
+    let closed = free(rt, alloc, blocks, plan, &gate)?;
     let events = own_events(&closed);
     Ok(events == 8 && gate.asked() == events && gate.told() == events)
 }

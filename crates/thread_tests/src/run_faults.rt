@@ -1,6 +1,6 @@
 //! Which fault a run of a file ends in, and what it has written by then.
 
-use crate::asking::holds;
+use crate::asking::{ROOM, answer_but_wants, holds};
 use crate::gates::Shut;
 use iso_lexer::FromStd;
 use permutations::{RunFault, free_spec, run_spec};
@@ -42,14 +42,17 @@ pub fn run<G: Gate, R: Threads + Wait + Sync>(
     alloc: Global,
     spec: &str,
     gate: &G,
-) -> Wrote {
-    let mut text = Vec::new(alloc);
-    let mut notes = Vec::new(alloc);
+) -> Result<Wrote, Fail> {
+    let mut text = Vec::with_capacity(alloc, ROOM)?;
+    let mut notes = Vec::with_capacity(alloc, ROOM)?;
     let mut input = FromStd::new(spec.as_bytes());
     let mut out = FromStd::new(&mut text);
     let mut told = FromStd::new(&mut notes);
     let answer = run_spec(rt, alloc, &mut input, &mut out, &mut told, 10, gate);
-    Wrote { text, answer }
+    Ok(Wrote {
+        text,
+        answer: answer_but_wants(answer)?,
+    })
 }
 
 fn run_freely<G: Gate, R: Threads + Wait + Sync>(
@@ -57,14 +60,17 @@ fn run_freely<G: Gate, R: Threads + Wait + Sync>(
     alloc: Global,
     spec: &str,
     gate: &G,
-) -> Wrote {
-    let mut text = Vec::new(alloc);
-    let mut notes = Vec::new(alloc);
+) -> Result<Wrote, Fail> {
+    let mut text = Vec::with_capacity(alloc, ROOM)?;
+    let mut notes = Vec::with_capacity(alloc, ROOM)?;
     let mut input = FromStd::new(spec.as_bytes());
     let mut out = FromStd::new(&mut text);
     let mut told = FromStd::new(&mut notes);
     let answer = free_spec(rt, alloc, &mut input, &mut out, &mut told, gate);
-    Wrote { text, answer }
+    Ok(Wrote {
+        text,
+        answer: answer_but_wants(answer)?,
+    })
 }
 
 /// The gate's fault is told as such, behind this text.
@@ -83,10 +89,10 @@ fn a_shut_gate_ends_a_run_of_a_file(rt: HostRuntime) -> Result<(), Fail> {
     let gate = Shut {
         asked: AtomicU64::new(0),
     };
-    let directed = run(&rt, rt.alloc(), ONE_STEP, &gate);
+    let directed = run(&rt, rt.alloc(), ONE_STEP, &gate)?;
     ends_at_the_gate(&rt, &directed, FIRST_LINE);
     holds(&rt, gate.asked.load(Ordering::SeqCst) == 3, "asked 3 times");
-    let free = run_freely(&rt, rt.alloc(), ONE_STEP, &gate);
+    let free = run_freely(&rt, rt.alloc(), ONE_STEP, &gate)?;
     ends_at_the_gate(&rt, &free, "");
     Ok(())
 }
@@ -99,7 +105,7 @@ permutation a b";
 
 #[test]
 fn what_ran_before_a_fault_is_told(rt: HostRuntime) -> Result<(), Fail> {
-    let ended = run(&rt, rt.alloc(), SECOND_SHUT_OUT, &NoSecond);
+    let ended = run(&rt, rt.alloc(), SECOND_SHUT_OUT, &NoSecond)?;
     let text = "Parsed test spec with 2 sessions\n\nstarting permutation: a\nstep a: \n";
     ends_at_the_gate(&rt, &ended, text);
     Ok(())

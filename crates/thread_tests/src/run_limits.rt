@@ -1,6 +1,6 @@
 //! How many permutations of a file run, and how many at a time, by what a gate sees.
 
-use crate::asking::holds;
+use crate::asking::{ROOM, answer_but_wants, holds};
 use crate::gates::comes;
 use crate::run_faults::run;
 use iso_lexer::FromStd;
@@ -39,23 +39,29 @@ impl Gate for Counting {
 const SIX: &str = "session s step a1 { } step a2 { } session t step b1 { } step b2 { }";
 
 /// How many launches a run makes that stops after so many permutations.
-fn launches_of<R: Threads + Wait + Sync>(rt: &R, alloc: Global, spec: &str, limit: u64) -> u64 {
+fn launches_of<R: Threads + Wait + Sync>(
+    rt: &R,
+    alloc: Global,
+    spec: &str,
+    limit: u64,
+) -> Result<u64, Fail> {
     let gate = Counting {
         launches: AtomicU64::new(0),
     };
-    let mut text = Vec::new(alloc);
-    let mut notes = Vec::new(alloc);
+    let mut text = Vec::with_capacity(alloc, ROOM)?;
+    let mut notes = Vec::with_capacity(alloc, ROOM)?;
     let mut input = FromStd::new(spec.as_bytes());
     let mut out = FromStd::new(&mut text);
     let mut told = FromStd::new(&mut notes);
-    let _ = run_spec(rt, alloc, &mut input, &mut out, &mut told, limit, &gate);
-    gate.launches.load(Ordering::SeqCst)
+    let answer = run_spec(rt, alloc, &mut input, &mut out, &mut told, limit, &gate);
+    let _ = answer_but_wants(answer)?;
+    Ok(gate.launches.load(Ordering::SeqCst))
 }
 
 #[test]
 fn no_more_permutations_run_than_the_limit(rt: HostRuntime) -> Result<(), Fail> {
     for (limit, launches) in [(0, 0), (1, 4), (2, 8), (5, 20), (6, 24), (7, 24)] {
-        let seen = launches_of(&rt, rt.alloc(), SIX, limit);
+        let seen = launches_of(&rt, rt.alloc(), SIX, limit)?;
         holds(&rt, seen == launches, "as many as the limit leaves");
     }
     Ok(())
@@ -95,7 +101,7 @@ fn permutations_run_side_by_side(rt: HostRuntime) -> Result<(), Fail> {
         asked: AtomicU64::new(0),
         met: AtomicU64::new(0),
     };
-    let ran = run(&rt, rt.alloc(), TWO, &gate);
+    let ran = run(&rt, rt.alloc(), TWO, &gate)?;
     holds(&rt, ran.answer.is_ok(), "the run ends");
     holds(&rt, gate.met.load(Ordering::SeqCst) == 2, "both were there");
     Ok(())

@@ -2,7 +2,7 @@
 ghost use Rattle.std.specs.Prelude.{◌≡◌};
 ghost use Rattle.session_machine.specs.Machine.{session_of};
 
-use crate::asking::holds;
+use crate::asking::{but_wants, holds};
 use row_versions::ListStore;
 use session_core::EngineState;
 use session_machine::{Event, Mode};
@@ -19,7 +19,7 @@ fn blocks<'t>(alloc: Global) -> Result<Vec<Block<'t>>, Fail> {
         "INSERT INTO t VALUES (2);",
         "SELECT * FROM t;",
     ] {
-        blocks.push(parse_block(alloc, text, Role::Main).map_err(|_| "a block")?)?;
+        blocks.push(parse_block(alloc, text, Role::Main)?)?;
     }
     Ok(blocks)
 }
@@ -65,9 +65,9 @@ fn do_one<'t>(
     engine: &mut EngineState<'_, 't, ListStore>,
     seat: &mut Seat<'t>,
     given: Given,
-) -> Result<(), Fail> {
+) -> Result<(), ThreadFault> {
     let event = event_of(seat.session(), given);
-    Ok(act(engine, seat, event).map_err(|_| "an event")?)
+    act(engine, seat, event)
 }
 
 /// The seats behind that history.
@@ -128,7 +128,7 @@ fn found(alloc: Global, blocks: &[Block<'_>], hands: Hands) -> Result<Option<Thr
     let mut engine = EngineState::new(alloc, blocks, 2, Mode::Directed, store)?;
     let seats = seats_of(alloc, &mut engine)?;
     let changed = changed(alloc, seats, hands)?;
-    Ok(close(engine, changed).err())
+    Ok(but_wants(close(engine, changed).err())?)
 }
 
 #[test]

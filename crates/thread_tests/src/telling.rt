@@ -30,8 +30,7 @@ fn step_blocks<'t>(alloc: Global, spec: &Spec<'t>) -> Result<Vec<Block<'t>>, Fai
             if step.part.sql.len() > 1_000 {
                 return Err(Fail::new("a long block"));
             }
-            let block = parse_block(alloc, step.part.sql, Role::Session);
-            blocks.push(block.map_err(|_| "a block")?)?;
+            blocks.push(parse_block(alloc, step.part.sql, Role::Session)?)?;
         }
     }
     Ok(blocks)
@@ -74,12 +73,12 @@ fn tells_the_seats<R: Threads + Wait + Sync>(
         return Ok(false);
     }
     let plan = Plan::new(alloc, spec, entries)?;
-    Ok(tells(rt, alloc, &blocks, plan).map_err(|_| "no closed run")?)
+    Ok(tells(rt, alloc, &blocks, plan)?)
 }
 
 #[test]
 fn workers_tell_what_their_seats_hold(rt: HostRuntime) -> Result<(), Fail> {
-    let spec = parse_spec(rt.alloc(), TWO).map_err(|_| "a spec")?;
+    let spec = parse_spec(rt.alloc(), TWO)?;
     let tells = tells_the_seats(&rt, rt.alloc(), &spec)?;
     holds(&rt, tells, "what was told is what the seats hold");
     Ok(())

@@ -101,7 +101,7 @@ impl Gate for NoSteps {
 fn what_a_run_leaves_undone_is_no_fault_behind_the_gates(rt: HostRuntime) -> Result<(), Fail> {
     let alloc = rt.alloc();
     let blocks = blocks(alloc, 4, &TEXTS)?;
-    let fault = directed(&rt, alloc, &blocks, QUERY, Order::Stop, &NoSteps);
+    let fault = directed(&rt, alloc, &blocks, QUERY, Order::Stop, &NoSteps)?;
     holds(&rt, fault == Some(ThreadFault::Gate), "the gate's fault");
     Ok(())
 }

@@ -4,7 +4,7 @@ use crate::asking::holds;
 use crate::free_runs::blocks;
 use row_versions::ListStore;
 use session_core::EngineState;
-use session_machine::{Event, Mode};
+use session_machine::{EngineFault, Event, Mode};
 use sql_parser::Block;
 use sql_values::{Row, Value};
 use std::alloc::Global;
@@ -23,19 +23,15 @@ const TEXTS: [&str; 6] = [
 /// Each session and the block that it is given, and how many steps follow.
 const GIVEN: [(u32, u32, usize); 5] = [(0, 0, 2), (1, 1, 1), (1, 2, 1), (2, 4, 1), (1, 3, 1)];
 
-fn perform(engine: &mut EngineState<'_, '_, ListStore>, event: Event) -> Result<(), Fail> {
-    Ok(engine.perform(event).map_err(|_| "a refused event")?)
-}
-
 fn give(
     engine: &mut EngineState<'_, '_, ListStore>,
     session: u32,
     block: u32,
     steps: usize,
-) -> Result<(), Fail> {
-    perform(engine, Event::Launch { session, block })?;
+) -> Result<(), EngineFault> {
+    engine.perform(Event::Launch { session, block })?;
     for _ in 0..steps {
-        perform(engine, Event::Step { session })?;
+        engine.perform(Event::Step { session })?;
     }
     Ok(())
 }
@@ -54,10 +50,9 @@ fn sees_both(alloc: Global, blocks: &[Block<'_>]) -> Result<bool, Fail> {
     for (session, block, steps) in GIVEN {
         give(&mut engine, session, block, steps)?;
     }
-    perform(&mut engine, Event::Step { session: 2 })?;
+    engine.perform(Event::Step { session: 2 })?;
     give(&mut engine, 2, 5, 1)?;
-    let seen = engine.visible(2, "website").map_err(|_| "a refusal")?;
-    Ok(match seen {
+    Ok(match engine.visible(2, "website")? {
         Some(rows) => match rows.as_slice() {
             [first, second] => is_int(first, 10) && is_int(second, 11),
             _ => false,
