@@ -1,14 +1,14 @@
-//! What an outcome is as.
+//! Whether a serial order of the transactions has an outcome.
 
-/// What an outcome is as. Orders of transactions are told by their sessions.
+/// Which serial order of the transactions has an outcome, if one has. An order names the session of each transaction.
 #[derive(Drop)]
 pub enum Verdict {
-    /// As this serial order.
+    /// This serial order has it.
     Serial(Vec<u32>),
-    /// Transactions of these sessions fail, and the rest is as this serial order.
+    /// None has it. Transactions of these sessions failed, and this order of the others has the outcome but for them.
     RestSerial { failed: Vec<u32>, rest: Vec<u32> },
-    /// No serial order has it.
+    /// None has it, with or without the transactions that failed.
     NotSerial,
-    /// A transaction failed that can't be left out, since this step of its goes on behind the end of one.
+    /// None has it, and one that failed can't be left out: this step of it is part of another transaction too.
     Untold { session: u32, step: u32 },
 }

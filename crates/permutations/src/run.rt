@@ -24,7 +24,7 @@ use std::thread::Threads;
 /// is written: for its length, as no UTF-8, for its tokens, as no spec, and for its blocks in the order of the file, in this
 /// order. After `limit` permutations, with one more there, the run ends; so it does after a setup that fails or waits. A
 /// permutation whose threads come to no end writes nothing, and the run ends in `Threads`; none ends in `ScheduleBroken`, and
-/// none in a refusal of what is the engine's to do next.
+/// none because an engine refuses what is next.
 ///
 /// ```
 /// let mut text = Vec::new(alloc);

@@ -111,6 +111,7 @@ fn close_one<'a, 't, V: Versions, O: Orderings>(
         place: own,
         mut run,
     } = over;
+    // (its history leads to its state: of that a refusal speaks)
     run.engine.state.history();
     let is_own = own == place && run.engine.state.is_of(blocks, sessions, Mode::Directed);
     run.met = told_of(is_own, run.met);

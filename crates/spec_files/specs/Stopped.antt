@@ -9,7 +9,7 @@ use Rattle.spec_files.specs.Runs.{is_broken}
 use Rattle.spec_files.specs.declared.fault.RunFault.{RunFault}
 use Rattle.spec_files.specs.declared.fault.RunFault.TheVariants as faults
 
--- memory, a thread that isn't started, a gate, or seats or a run that the threads have left otherwise than they should, out of turn or before its end: no other refusal of an engine is of these, nor is another schedule
+-- want of memory, a thread that isn't started, a gate, or threads that come out of turn, or leave a run before its end, or its seats otherwise than they should; what else an engine refuses is none of these
 abbrev pub is_of_threads : RunFault → Bool
 is_of_threads faults.Memory = true
 is_of_threads (faults.Threads thread_faults.ThreadRefused) = true

@@ -113,8 +113,8 @@ fn run_file<
 /// is written depends on anything but the bytes read and the limit. The file is refused before anything is written: for its
 /// length, as no UTF-8, for its tokens, as no spec, and for its blocks in the order of the file, in this order. After `limit`
 /// permutations, with one more there, the run ends; so it does after a setup that fails or waits. A permutation whose run
-/// comes to no end writes nothing, and the run ends in `Threads`; none ends in `ScheduleBroken`. Where what runs the
-/// permutations is stopped by no engine's refusal, nor is the run.
+/// comes to no end writes nothing, and the run ends in `Threads`; none ends in `ScheduleBroken`. An engine's refusal ends it
+/// only where it has ended the run of a permutation.
 pub fn run_spec_by<
     S: Source,
     W: Sink,

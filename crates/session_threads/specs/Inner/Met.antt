@@ -11,12 +11,12 @@ is_refusal (thread_faults.Engine engine_faults.NotYourTurn) = false
 is_refusal (thread_faults.Engine fault) = true
 is_refusal _ = false
 
--- of another run than was handed in, a fault that was met, but not what its engine refused; then, that it is another
+-- it is another run than the one that was handed in: a fault that was met there is told, unless its engine refused what was next; else that it is another run
 abbrev pub told_of_another : Option ThreadFault → Option ThreadFault
 told_of_another None = Some thread_faults.OtherRun
 told_of_another (Some fault) = Some (if is_refusal fault then thread_faults.OtherRun else fault)
 
--- of the run that was handed in, what was met in it
+-- it is the run that was handed in, and what was met in it is told; or it is another
 abbrev pub told_of : Bool → Option ThreadFault → Option ThreadFault
 told_of true met = met
 told_of false met = told_of_another met
