@@ -6,7 +6,7 @@ use Rattle.std.specs.List.{list_any, list_all}
 use Rattle.std.proofs.lemmas.List.{length_push}
 use Rattle.std.proofs.lemmas.List.Folds.{list_any-append, list_all-append}
 use Rattle.places.specs.declared.places.Places.{Places}
-use Rattle.places.specs.Noted.{has_place, noted, without_last}
+use Rattle.places.specs.Noted.{has_no_place_twice, has_place, noted, without_last}
 use Rattle.row_versions.specs.declared.names.TxId.{TxId}
 use Rattle.row_versions.specs.declared.names.RowId.{RowId}
 use Rattle.row_versions.specs.declared.names.TableId.{TableId}
@@ -18,29 +18,29 @@ use Rattle.unique_keys.specs.declared.code_lists.CodeLists.{CodeLists}
 use Rattle.unique_keys.specs.Inner.Codes.{mix, note_code}
 use Rattle.unique_keys.specs.Inner.Finding.{last_of}
 use Rattle.unique_keys.specs.Inner.Slots.{at, is_elsewhere, kept, passes, Listed, Rises}
-use Rattle.unique_keys.specs.Inner.Listing.{GrownList, Grown, ShrunkList, Shrunk, KeepsUses, KeepsOtherUses, is_coded, is_used}
+use Rattle.unique_keys.specs.Inner.Listing.{GrownList, Grown, ShrunkList, Shrunk, AreOnce, KeepsUses, KeepsOtherUses, is_coded, is_used}
 use Rattle.unique_keys.specs.Inner.WellKept.{AreAll, IsListed, WellKept}
-use Rattle.unique_keys.proofs.Quick.{both, and, alike}
-use Rattle.unique_keys.proofs.Slots.{fails, true_or_false, passes_some, some_passes, exists_at, any_at, none_at, any_listed, last_found, rises_on, rises_pushed, keeps_pushed, has_pushed, has_struck, keeps_struck, rises_struck, at-set_other, at-set_same, kept-push, at-push}
+use Rattle.unique_keys.proofs.Quick.{both, alike}
+use Rattle.unique_keys.proofs.Slots.{fails, true_or_false, passes_some, some_passes, exists_at, any_at, none_at, any_listed, last_found, rises_on, rises_pushed, keeps_pushed, has_struck, once_pushed, once_struck, keeps_struck, rises_struck, at-set_other, at-set_same, kept-push, at-push}
 
 -- a list that stays, one with a place more, and one with a place less
 pub grown_same : (place : ℕ) (old new : List ℕ) → new ≡ old → GrownList place old new
 grown_same place old new e = record {
+  once = λ n d. subst (λ v. has_no_place_twice v) (sym e) d;
   keeps = λ p h. ap (λ v. has_place v p) e ∙ h;
   rises = λ r. subst (λ v. Rises place v) (sym e) r;
 }
 
 pub grown_pushed : (place : ℕ) (old new : List ℕ) → new ≡ old ++ place ∷ [] → GrownList place old new
 grown_pushed place old new e = record {
+  once = λ n d. subst (λ v. has_no_place_twice v) (sym e) (once_pushed old place n d);
   keeps = λ p h. ap (λ v. has_place v p) e ∙ keeps_pushed old place p h;
   rises = λ r. subst (λ v. Rises place v) (sym e) (rises_pushed old place r);
 }
 
-pub grown_more : (place : ℕ) (a b c : List ℕ) → GrownList place a b → GrownList place b c → GrownList place a c
-grown_more place a b c f g = record { keeps = λ p h. g.keeps p (f.keeps p h); rises = λ r. g.rises (f.rises r) }
-
 pub shrunk_same : (place : ℕ) (old new : List ℕ) → new ≡ old → ShrunkList place old new
 shrunk_same place old new e = record {
+  once = λ d. subst (λ v. has_no_place_twice v) (sym e) d;
   keeps = λ p n h. ap (λ v. has_place v p) e ∙ h;
   only = λ p h. sym (ap (λ v. has_place v p) e) ∙ h;
   rises = λ limit r. subst (λ v. Rises limit v) (sym e) r;
@@ -48,13 +48,11 @@ shrunk_same place old new e = record {
 
 pub shrunk_struck : (place : ℕ) (old new : List ℕ) → new ≡ without_last place old → ShrunkList place old new
 shrunk_struck place old new e = record {
+  once = λ d. subst (λ v. has_no_place_twice v) (sym e) (once_struck place old d);
   keeps = λ p n h. ap (λ v. has_place v p) e ∙ keeps_struck place old p n h;
   only = λ p h. has_struck place old p (sym (ap (λ v. has_place v p) e) ∙ h);
   rises = λ limit r. subst (λ v. Rises limit v) (sym e) (rises_struck place old limit r);
 }
-
-pub shrunk_more : (place : ℕ) (a b c : List ℕ) → ShrunkList place a b → ShrunkList place b c → ShrunkList place a c
-shrunk_more place a b c f g = record { keeps = λ p n h. g.keeps p n (f.keeps p n h); only = λ p h. f.only p (g.only p h); rises = λ limit r. g.rises limit (f.rises limit r) }
 
 -- in a map, where one number's list is changed and the others stay
 at_number : (P : List ℕ → List ℕ → Type 0) (old new : Places) (number : ℕ) → P (noted old number) (noted new number)
@@ -105,33 +103,6 @@ pub coded_more : (w : Noted) (p : ℕ) (lists : CodeLists) (keys : List KnownKey
     → list_all (is_coded w p lists) (keys ++ key ∷ []) ≡ true
 coded_more w p lists keys key t u = list_all-append (is_coded w p lists) keys (key ∷ []) ∙ ap (λ v. v && (is_coded w p lists key && true)) t ∙ ap (λ v. v && true) u
 
--- where the lists of both maps grow, what was listed still is
-pub uses_grow : (place row : ℕ) (old new : CodeLists) → Grown place old.notes new.notes → Grown row old.rows new.rows → KeepsUses old new
-uses_grow place row old new notes rows = λ r p code h.
-    let t = both (has_place (noted old.rows code) r) (has_place (noted old.notes (mix r code)) p) h in
-    and (has_place (noted new.rows code) r) (has_place (noted new.notes (mix r code)) p) ((rows code).keeps r t.0) ((notes (mix r code)).keeps p t.1)
-
--- where a place is struck, and its row where no place is left, what else was listed still is
-pub uses_shrink : (place row code : ℕ) (old new : CodeLists) → Shrunk place old.notes new.notes → Shrunk row old.rows new.rows
-    → ((other : ℕ) → (other == code) ≡ false → noted new.rows other ≡ noted old.rows other) → noted new.notes (mix row code) ≡ [] → KeepsOtherUses place old new
-uses_shrink place row code old new notes rows others none = λ r p c n h.
-    let t = both (has_place (noted old.rows c) r) (has_place (noted old.notes (mix r c)) p) h in
-    let there = (notes (mix r c)).keeps p n t.1 in
-    and (has_place (noted new.rows c) r) (has_place (noted new.notes (mix r c)) p) (listed r p c t.0 there (c == code) refl (r == row) refl) there where
-      listed : (r p c : ℕ) → has_place (noted old.rows c) r ≡ true → has_place (noted new.notes (mix r c)) p ≡ true → (a : Bool) → (c == code) ≡ a → (b : Bool) → (r == row) ≡ b
-          → has_place (noted new.rows c) r ≡ true
-      listed r p c h there false e b f = ap (λ v. has_place v r) (others c e) ∙ h
-      listed r p c h there true e false f = (rows c).keeps r f h
-      listed r p c h there true e true f =
-          let same : mix r c ≡ mix row code = (λ i. mix (eqb-true r row f i) (eqb-true c code e i)) in
-          absurd (true_or_false (has_place (noted new.notes (mix r c)) p) there (ap (λ v. has_place v p) (ap (noted new.notes) same ∙ none)))
-
--- where a place is struck and others of the row are left
-pub uses_stay : (place : ℕ) (old new : CodeLists) → Shrunk place old.notes new.notes → new.rows ≡ old.rows → KeepsOtherUses place old new
-uses_stay place old new notes rows = λ r p c n h.
-    let t = both (has_place (noted old.rows c) r) (has_place (noted old.notes (mix r c)) p) h in
-    and (has_place (noted new.rows c) r) (has_place (noted new.notes (mix r c)) p) (ap (λ v. has_place (noted v c) r) rows ∙ t.0) ((notes (mix r c)).keeps p n t.1)
-
 -- a row for which some place is listed is among all
 pub row_in_all : (by_row : Places) (all : List ℕ) (row : ℕ) → AreAll by_row all → (length (noted by_row row) == 0) ≡ false → has_place all row ≡ true
 row_in_all by_row all row rows some = by (noted by_row row) refl some where
@@ -152,8 +123,8 @@ is_apart w v = is_elsewhere w.table w.row v
 
 -- the lists grow
 pub grown_keeps : (n m : Notes) (place : ℕ) → place ≡ length n.slots.items → WellKept n → m.slots.items ≡ n.slots.items → m.known.items ≡ n.known.items → (m.mixed ≡ false → n.mixed ≡ false)
-    → AreAll m.by_row m.all.items → Grown place n.by_row m.by_row → Grown place n.by_tx m.by_tx → Grown place n.by_writer m.by_writer → KeepsUses n.by_code m.by_code → WellKept m
-grown_keeps n m place last well slots known mixed all rows txs writers codes = record {
+    → AreAll m.by_row m.all.items → Grown place n.by_row m.by_row → Grown place n.by_tx m.by_tx → Grown place n.by_writer m.by_writer → KeepsUses n.by_code m.by_code → AreOnce m.by_code → WellKept m
+grown_keeps n m place last well slots known mixed all rows txs writers codes once = record {
   listed = λ p w e. let old = well.listed p w (sym (ap (λ s. at s p) slots) ∙ e) in record {
     in_row = (rows w.row.0).keeps p old.in_row;
     in_tx = (txs w.tx.0).keeps p old.in_tx;
@@ -163,6 +134,7 @@ grown_keeps n m place last well slots known mixed all rows txs writers codes = r
   };
   rows_rise = λ number. raised (noted n.by_row number) (noted m.by_row number) (rows number) (well.rows_rise number);
   rows = all;
+  once = once;
 } where
   raised : (old new : List ℕ) → GrownList place old new → Rises (length n.slots.items) old → Rises (length m.slots.items) new
   raised old new g r = subst (λ s. Rises (length s) new) (sym slots) (subst (λ k. Rises k new) last (g.rises (subst (λ k. Rises k old) (sym last) r)))
@@ -195,6 +167,7 @@ pushed_keeps n m w well new slots known mixed all rows txs writers codes = recor
   ];
   rows_rise = λ number. ap_rises (noted n.by_row number) (noted m.by_row number) (ap (λ a. noted a number) rows) (well.rows_rise number);
   rows = all_same n m rows all well.rows;
+  once = subst (λ c. AreOnce c) (sym codes) well.once;
 } where
   passes_false : (v : Noted) (p : ℕ) → at n.slots.items p ≡ Some v → n.mixed ≡ false → is_apart w v ≡ false
   passes_false v p e t = sym (ap (passes (is_apart w)) e) ∙ none_at (is_apart w) n.slots.items (new.apart t) p
@@ -221,11 +194,12 @@ none_there slots place w e = let same : None ≡ Some w = sym (at-set_same slots
 
 -- a slot is emptied, and its place is struck from some lists
 pub emptied_keeps : (n m : Notes) (place : ℕ) → WellKept n → m.slots.items ≡ set n.slots.items place None → m.known ≡ n.known → m.mixed ≡ n.mixed → m.all ≡ n.all → m.by_tx ≡ n.by_tx
-    → Shrunk place n.by_row m.by_row → Shrunk place n.by_writer m.by_writer → KeepsOtherUses place n.by_code m.by_code → WellKept m
-emptied_keeps n m place well slots known mixed all txs rows writers codes = record {
+    → Shrunk place n.by_row m.by_row → Shrunk place n.by_writer m.by_writer → KeepsOtherUses place n.by_code m.by_code → AreOnce m.by_code → WellKept m
+emptied_keeps n m place well slots known mixed all txs rows writers codes once = record {
   listed = λ p w e. moved w p (λ same. none_there n.slots.items place w (sym (ap (λ s. at s place) slots) ∙ subst (λ q. at m.slots.items q ≡ Some w) same e)) (ap (λ s. at s p) (sym slots) ∙ e);
   rows_rise = λ number. subst (λ k. Rises k (noted m.by_row number)) (sym long) ((rows number).rises (length n.slots.items) (well.rows_rise number));
   rows = λ r p t. ap (λ a. has_place a.items r) all ∙ well.rows r p ((rows r).only p t);
+  once = once;
 } where
   long : length m.slots.items ≡ length n.slots.items
   long = ap (λ s. length s) slots ∙ length-set n.slots.items place None
@@ -258,6 +232,7 @@ struck_keeps n m tx place well none slots known mixed all rows writers codes txs
   };
   rows_rise = λ number. subst (λ s. Rises (length s.items) (noted m.by_row number)) (sym slots) (subst (λ a. Rises (length n.slots.items) (noted a number)) (sym rows) (well.rows_rise number));
   rows = all_same n m rows all well.rows;
+  once = subst (λ c. AreOnce c) (sym codes) well.once;
 } where
   step : (w : Noted) (p : ℕ) → at n.slots.items p ≡ Some w → has_place (noted n.by_tx w.tx.0) p ≡ true → (b : Bool) → (w.tx.0 == tx.0) ≡ b → has_place (noted m.by_tx w.tx.0) p ≡ true
   step w p e h false own = ap (λ l. has_place l p) (others w.tx.0 own) ∙ h
@@ -278,6 +253,7 @@ learnt_keeps n m key well none slots known mixed all rows txs writers codes = re
   };
   rows_rise = λ number. subst (λ s. Rises (length s.items) (noted m.by_row number)) (sym slots) (subst (λ a. Rises (length n.slots.items) (noted a number)) (sym rows) (well.rows_rise number));
   rows = all_same n m rows all well.rows;
+  once = subst (λ c. AreOnce c) (sym codes) well.once;
 } where
   new : (w : Noted) (p : ℕ) → at n.slots.items p ≡ Some w → is_coded w p n.by_code key ≡ true
   new w p e =
@@ -318,10 +294,6 @@ pub grown_by : {A E : Type 0} (place : ℕ) (old new : Places) (number : ℕ) (r
     → ((other : ℕ) → (other == number) ≡ false → noted new other ≡ noted old other) → OnErr r ((other : ℕ) → noted new other ≡ noted old other) → Grown place old new
 grown_by place old new number (Ok x) ok others err = grown_at place old new number ok others
 grown_by place old new number (Err e) ok others err = λ other. grown_same place (noted old other) (noted new other) (err other)
-
-pub added_by : {A E : Type 0} (place : ℕ) (old new : List ℕ) (r : Result A E) → OnOk r (new ≡ old ++ place ∷ []) → OnOk r (has_place new place ≡ true)
-added_by place old new (Ok x) ok = ap (λ l. has_place l place) ok ∙ has_pushed old place
-added_by place old new (Err e) ok = tt
 
 -- the last note that passes is at the last place of its row that does
 pub last_of_row : (n : Notes) (row : RowId) (test : Noted → Bool) (places : List ℕ) (i : ℕ) → WellKept n → ((w : Noted) → test w ≡ true → (w.row.0 == row.0) ≡ true) → places ≡ noted n.by_row row.0

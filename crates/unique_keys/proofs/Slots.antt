@@ -5,7 +5,7 @@ use Rattle.std.specs.Option.{option_or}
 use Rattle.std.specs.List.{list_any}
 use Rattle.std.proofs.lemmas.List.{reverse-append}
 use Rattle.std.proofs.lemmas.List.Folds.{find-append}
-use Rattle.places.specs.Noted.{has_place, without_last}
+use Rattle.places.specs.Noted.{has_no_place_twice, has_place, without_last}
 use Rattle.row_versions.specs.declared.names.TxId.{TxId}
 use Rattle.row_versions.specs.Members.{same_tx}
 use Rattle.unique_keys.specs.declared.noted.Noted.{Noted}
@@ -232,6 +232,21 @@ keeps_struck place (x ∷ xs) p n h = step (has_place xs place) (x == place) ref
   step true a e t others = more (x == p) t others
   step false true e t others = another (x == p) refl e t
   step false false e t others = t
+
+-- no place comes twice where one is added that wasn't there, nor where one is struck
+pub once_pushed : (places : List ℕ) (place : ℕ) → has_place places place ≡ false → has_no_place_twice places → has_no_place_twice (places ++ place ∷ [])
+once_pushed [] place n d = (refl, tt)
+once_pushed (x ∷ xs) place n d =
+    let t = or_none (x == place) (has_place xs place) n in
+    (has_last xs place x ∙ ap (λ b. b || (place == x)) d.0 ∙ fails (place == x) (λ e. true_or_false (x == place) (eq-eqb x place (sym (eqb-true place x e))) t.0), once_pushed xs place t.1 d.1)
+
+pub once_struck : (place : ℕ) (places : List ℕ) → has_no_place_twice places → has_no_place_twice (without_last place places)
+once_struck place [] d = tt
+once_struck place (x ∷ xs) d = step (has_place xs place) (x == place) (once_struck place xs d.1) where
+  step : (b a : Bool) → has_no_place_twice (without_last place xs) → has_no_place_twice (cond b (x ∷ without_last place xs) (cond a xs (x ∷ xs)))
+  step true a rest = (fails (has_place (without_last place xs) x) (λ h. true_or_false (has_place xs x) (has_struck place xs x h) d.0), rest)
+  step false true rest = d.1
+  step false false rest = d
 
 pub rises_struck : (place : ℕ) (places : List ℕ) (limit : ℕ) → Rises limit places → Rises limit (without_last place places)
 rises_struck place [] limit r = tt

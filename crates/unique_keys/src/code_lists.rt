@@ -1,7 +1,7 @@
 //! Where codes lead.
-ghost use Rattle.std.specs.Prelude.{◌≡◌, ℕ, [], true, OnOk};
+ghost use Rattle.std.specs.Prelude.{◌≡◌, true, OnOk};
 ghost use Rattle.places.specs.Noted.{has_place, noted};
-ghost use Rattle.unique_keys.specs.Inner.Listing.{KeepsOtherUses, KeepsUses, is_used};
+ghost use Rattle.unique_keys.specs.Inner.Listing.{AreOnce, KeepsOtherUses, KeepsUses, is_used};
 
 use crate::codes::mix;
 use crate::listing::{add, strike};
@@ -27,7 +27,7 @@ fn has_row(rows: &[usize], row: usize) -> bool
 impl CodeLists {
     /// No code leads anywhere. It takes no memory.
     pub fn new(alloc: Global) -> CodeLists
-        ensures { (code : ℕ) → noted result.rows code ≡ [] }
+        ensures { AreOnce result }
     {
         CodeLists {
             rows: Places::new(alloc),
@@ -45,6 +45,7 @@ impl CodeLists {
     /// Lists the row, and the place of a note of it that has the code.
     pub fn add(&mut self, code: u64, row: RowId, place: usize) -> Result<(), AllocError>
         ensures kept { KeepsUses self.old self.new }
+        ensures once { AreOnce self.old → AreOnce self.new }
         ensures used { OnOk result (is_used self.new row.0 place code ≡ true) }
     {
         add(&mut self.notes, mix(row.0, code), place)?;
@@ -57,7 +58,8 @@ impl CodeLists {
 
     /// Strikes the place of a note, and its row if no other note of it has the code.
     pub fn strike(&mut self, code: u64, row: RowId, place: usize)
-        ensures { KeepsOtherUses place self.old self.new }
+        ensures kept { KeepsOtherUses place self.old self.new }
+        ensures once { AreOnce self.old → AreOnce self.new }
     {
         let number = mix(row.0, code);
         strike(&mut self.notes, number, place);

@@ -2,7 +2,7 @@
 ghost use Rattle.std.specs.Prelude.{◌≡◌, ◌==◌, ◌&&◌, true, OnOk, nat_eq};
 ghost use Rattle.std.specs.List.{list_all, list_any};
 ghost use Rattle.unique_keys.specs.Inner.Codes.{note_code};
-ghost use Rattle.unique_keys.specs.Inner.Listing.{KeepsOtherUses, KeepsUses, is_coded, is_key};
+ghost use Rattle.unique_keys.specs.Inner.Listing.{AreOnce, KeepsOtherUses, KeepsUses, is_coded, is_key};
 
 use crate::code_lists::CodeLists;
 use crate::codes::key_code;
@@ -48,6 +48,7 @@ fn add_code(
     place: usize,
 ) -> Result<(), AllocError>
     ensures kept { KeepsUses lists.old lists.new }
+    ensures once { AreOnce lists.old → AreOnce lists.new }
     ensures coded { OnOk result (is_coded note.now place lists.new key.now ≡ true) }
 {
     if note.table.0 == key.table.0 {
@@ -66,6 +67,7 @@ pub fn add_codes(
     place: usize,
 ) -> Result<(), AllocError>
     ensures kept { KeepsUses lists.old lists.new }
+    ensures once { AreOnce lists.old → AreOnce lists.new }
     ensures coded { OnOk result (list_all (is_coded note.now place lists.new) known.now ≡ true) }
 {
     for key in known {
@@ -76,7 +78,8 @@ pub fn add_codes(
 
 /// Strikes the note for the key.
 fn strike_code(lists: &mut CodeLists, key: &KnownKey, note: &Noted, place: usize)
-    ensures { KeepsOtherUses place lists.old lists.new }
+    ensures kept { KeepsOtherUses place lists.old lists.new }
+    ensures once { AreOnce lists.old → AreOnce lists.new }
 {
     if note.table.0 == key.table.0 {
         if let Some(code) = note_code(key, note) {
@@ -87,7 +90,8 @@ fn strike_code(lists: &mut CodeLists, key: &KnownKey, note: &Noted, place: usize
 
 /// Strikes the note for each of the keys.
 pub fn strike_codes(lists: &mut CodeLists, known: &[KnownKey], note: &Noted, place: usize)
-    ensures { KeepsOtherUses place lists.old lists.new }
+    ensures kept { KeepsOtherUses place lists.old lists.new }
+    ensures once { AreOnce lists.old → AreOnce lists.new }
 {
     for key in known {
         strike_code(lists, key, note, place);

@@ -3,7 +3,7 @@ use Rattle.std.specs.Prelude.{◌≡◌, ◌==◌, ℕ, Bool, true, false, not, 
 use Rattle.std.specs.Option.{option_map_or}
 use Rattle.std.specs.Cmp.Lexicographic.{pointwise}
 use Rattle.places.specs.declared.places.Places.{Places}
-use Rattle.places.specs.Noted.{has_place, noted}
+use Rattle.places.specs.Noted.{has_no_place_twice, has_place, noted}
 use Rattle.row_versions.specs.declared.names.TableId.{TableId}
 use Rattle.unique_keys.specs.declared.noted.Noted.{Noted}
 use Rattle.unique_keys.specs.declared.known.KnownKey.{KnownKey}
@@ -17,6 +17,7 @@ Rising limit places = (number : ℕ) → Rises limit (noted places number)
 
 -- at most this place was added, which is behind all
 pub record GrownList (place : ℕ) (old new : List ℕ) : Type 0 where
+  pub once : has_place old place ≡ false → has_no_place_twice old → has_no_place_twice new
   pub keeps : (p : ℕ) → has_place old p ≡ true → has_place new p ≡ true
   pub rises : Rises place old → Rises place new
 
@@ -25,6 +26,7 @@ Grown place old new = (number : ℕ) → GrownList place (noted old number) (not
 
 -- at most this place was struck
 pub record ShrunkList (place : ℕ) (old new : List ℕ) : Type 0 where
+  pub once : has_no_place_twice old → has_no_place_twice new
   pub keeps : (p : ℕ) → (p == place) ≡ false → has_place old p ≡ true → has_place new p ≡ true
   pub only : (p : ℕ) → has_place new p ≡ true → has_place old p ≡ true
   pub rises : (limit : ℕ) → Rises limit old → Rises limit new
@@ -39,6 +41,10 @@ is_key table columns key = (key.table.0 == table.0) && pointwise nat_eq key.colu
 -- the row is listed by the code, and the place of its note by both
 abbrev pub is_used : CodeLists → ℕ → ℕ → ℕ → Bool
 is_used lists row place code = has_place (noted lists.rows code) row && has_place (noted lists.notes (mix row code)) place
+
+-- each row is listed once for a code
+abbrev pub AreOnce : CodeLists → Type 0
+AreOnce lists = (code : ℕ) → has_no_place_twice (noted lists.rows code)
 
 -- what was listed still is
 abbrev pub KeepsUses : CodeLists → CodeLists → Type 0

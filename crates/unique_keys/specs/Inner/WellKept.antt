@@ -10,7 +10,7 @@ use Rattle.unique_keys.specs.declared.notes.Notes.{Notes}
 use Rattle.unique_keys.specs.Keys.{has_key}
 use Rattle.unique_keys.specs.Inner.Codes.{mix}
 use Rattle.unique_keys.specs.Inner.Slots.{at, is_elsewhere, kept}
-use Rattle.unique_keys.specs.Inner.Listing.{Rising, is_coded}
+use Rattle.unique_keys.specs.Inner.Listing.{AreOnce, Rising, is_coded}
 
 -- the note at the place is listed: for its row, for its transaction, for both, and for each known key that it has
 pub record IsListed (notes : Notes) (w : Noted) (place : ℕ) : Type 0 where
@@ -24,11 +24,12 @@ pub record IsListed (notes : Notes) (w : Noted) (place : ℕ) : Type 0 where
 abbrev pub AreAll : Places → List ℕ → Type 0
 AreAll by_row all = (row place : ℕ) → has_place (noted by_row row) place ≡ true → has_place all row ≡ true
 
--- each note is listed, the lists of rows rise, and each row is among all
+-- each note is listed, the lists of rows rise, each row is among all, and none is listed twice for a code
 pub record WellKept (notes : Notes) : Type 0 where
   pub listed : (place : ℕ) (w : Noted) → at notes.slots.items place ≡ Some w → IsListed notes w place
   pub rows_rise : Rising (length notes.slots.items) notes.by_row
   pub rows : AreAll notes.by_row notes.all.items
+  pub once : AreOnce notes.by_code
 
 -- among the candidates are all rows that were noted in the table and of which a note has the key
 abbrev pub Leads : List (Option Noted) → List ℕ → TableId → List ℕ → List Value → Type 0
