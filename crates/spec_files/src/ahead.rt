@@ -18,49 +18,73 @@ use spec_parser::{Entry, Spec};
 use std::alloc::{AllocError, Global};
 use std::collections::VecDeque;
 use std::sync::Wait;
-use std::thread::Threads;
+use std::thread::{Threads, available_parallelism};
+
+/// How many permutations run ahead of their turn, at most.
+const MOST_AHEAD: u64 = 64;
 
 /// How many crews run at a time, at most, and how many threads they have together, where it is more than one: so many stacks
 /// of ended threads stay with the process.
-const MOST_AT_A_TIME: usize = 2;
+const MOST_AT_A_TIME: usize = 4;
 
 const MOST_THREADS: usize = 40;
 
-/// How many permutations one crew serves, at most: each thread that is started takes time, and what wakes one serves many.
-const MOST_TOGETHER: usize = 32;
+/// How many permutations one crew serves, at most, and at least where so many are left: each thread that is started takes time,
+/// and what wakes one serves many.
+const MOST_TOGETHER: usize = 64;
 
-/// How many crews of so many sessions run at a time; each has a thread for each session, and the one it runs in.
-fn at_a_time(sessions: usize) -> usize
-    ensures few { (0 < result) × (result ≤ 2) }
+const LEAST_TOGETHER: usize = 8;
+
+/// How many processors there are for the threads; one where nobody can tell.
+fn processors<R: Threads>(rt: &R) -> usize {
+    match available_parallelism(rt) {
+        Ok(count) => count.get(),
+        Err(_) => 1,
+    }
+}
+
+/// How many crews of so many sessions run at a time: one for each processor; each has a thread for each session, and the one it
+/// runs in.
+fn at_a_time(sessions: usize, processors: usize) -> usize
+    ensures few { (0 < result) × (result ≤ 4) }
     ensures threads { (result ≡ 1) ⊎ (result * (sessions + 1) ≤ 40) }
 {
     let each = sessions.saturating_add(1);
     let fit = MOST_THREADS / each;
-    fit.clamp(1, MOST_AT_A_TIME)
+    fit.min(processors).clamp(1, MOST_AT_A_TIME)
 }
 
-/// How many permutations of so many sessions run ahead of their turn, at most.
-fn most_ahead(sessions: usize) -> u64
+/// How many crews run at a time, where it isn't known yet; one where it can serve all of so many permutations.
+fn crews_for<R: Threads>(
+    rt: &R,
+    known: Option<usize>,
+    permutations: usize,
+    sessions: usize,
+) -> usize {
+    match known {
+        Some(crews) => crews,
+        None if permutations <= LEAST_TOGETHER => 1,
+        None => at_a_time(sessions, processors(rt)),
+    }
+}
+
+/// How many of so many permutations one crew serves: they are dealt out evenly, few of them to fewer crews.
+fn together(permutations: usize, crews: usize) -> usize
     ensures { (0 < result) × (result ≤ 64) }
 {
-    at_a_time(sessions) as u64 * MOST_TOGETHER as u64
-}
-
-/// How many of so many permutations one crew serves: they are dealt out evenly.
-fn together(permutations: usize, sessions: usize) -> usize
-    ensures { (0 < result) × (result ≤ 32) }
-{
     permutations
-        .div_ceil(at_a_time(sessions))
-        .clamp(1, MOST_TOGETHER)
+        .div_ceil(crews.max(1))
+        .clamp(LEAST_TOGETHER, MOST_TOGETHER)
 }
 
-/// The drafts of the permutations whose turn comes next, the permutations behind them, and how many of all these may run.
+/// The drafts of the permutations whose turn comes next, the permutations behind them, how many of all these may run, and by how
+/// many crews, once it is known.
 #[derive(Drop)]
 pub struct Ahead<'s> {
     pub drafts: VecDeque<Draft>,
     pub behind: Permutations<'s>,
     pub left: u64,
+    crews: Option<usize>,
 }
 
 fn copy_entry(alloc: Global, entry: &Entry) -> Result<Entry, AllocError>
@@ -148,6 +172,7 @@ impl<'s> Ahead<'s> {
             drafts: VecDeque::new(alloc),
             behind: Permutations::of(alloc, spec)?,
             left: limit,
+            crews: None,
         })
     }
 
@@ -171,9 +196,11 @@ impl<'s> Ahead<'s> {
             return Ok(());
         }
         let sessions = file.spec.sessions.len();
-        let most = self.left.min(most_ahead(sessions));
+        let most = self.left.min(MOST_AHEAD);
         let taken = take_next(alloc, &mut self.behind, most)?;
-        let together = together(taken.len(), sessions);
+        let crews = crews_for(rt, self.crews, taken.len(), sessions);
+        self.crews = Some(crews);
+        let together = together(taken.len(), crews);
         self.drafts = drafts_of(rt, alloc, file, run, taken, together)?.into();
         Ok(())
     }
