@@ -14,11 +14,11 @@ use Rattle.unique_keys.specs.declared.noted.Noted.{Noted}
 use Rattle.unique_keys.specs.declared.notes.Notes.{Notes}
 use Rattle.unique_keys.specs.declared.known.KnownKey.{KnownKey}
 use Rattle.unique_keys.specs.Keys.{has_key}
-use Rattle.unique_keys.specs.declared.code_lists.CodeLists.{CodeLists}
-use Rattle.unique_keys.specs.Inner.Codes.{key_code, code_from, mix, note_code}
+use Rattle.places.specs.declared.places.Places.{Places}
+use Rattle.unique_keys.specs.Inner.Codes.{key_code, code_from, note_code}
 use Rattle.unique_keys.specs.Inner.Finding.{takes, is_another, counts_for, newest_has}
 use Rattle.unique_keys.specs.Inner.Slots.{at, kept, passes}
-use Rattle.unique_keys.specs.Inner.Listing.{is_key, is_coded, is_used}
+use Rattle.unique_keys.specs.Inner.Listing.{is_key, is_coded}
 use Rattle.unique_keys.specs.Inner.WellKept.{WellKept, Leads}
 use Rattle.unique_keys.proofs.Quick.{both}
 use Rattle.unique_keys.proofs.Equal.{agree_is}
@@ -52,24 +52,24 @@ one_table w v apart r =
     let same : w.row.0 ≡ v.row.0 = sym (eqb-true v.row.0 w.row.0 r) in
     eqb-true w.table.0 v.table.0 (not_false (w.table.0 == v.table.0) (sym (ap (λ b. b && not (w.table.0 == v.table.0)) (eq-eqb w.row.0 v.row.0 same)) ∙ apart))
 
-used_by_code : (w : Noted) (place : ℕ) (lists : CodeLists) (key : KnownKey) (code : ℕ) → w.table.0 ≡ key.table.0 → note_code key w ≡ Some code → is_coded w place lists key ≡ true
-    → is_used lists w.row.0 place code ≡ true
-used_by_code w place lists key code e c h =
-    sym (ap (λ b. not b || option_map_or (λ k. is_used lists w.row.0 place k) (note_code key w) true) (eq-eqb w.table.0 key.table.0 e) ∙ ap (λ o. option_map_or (λ k. is_used lists w.row.0 place k) o true) c) ∙ h
+listed_by_code : (w : Noted) (by_code : Places) (key : KnownKey) (code : ℕ) → w.table.0 ≡ key.table.0 → note_code key w ≡ Some code → is_coded w by_code key ≡ true
+    → has_place (noted by_code code) w.row.0 ≡ true
+listed_by_code w by_code key code e c h =
+    sym (ap (λ b. not b || option_map_or (λ k. has_place (noted by_code k) w.row.0) (note_code key w) true) (eq-eqb w.table.0 key.table.0 e) ∙ ap (λ o. option_map_or (λ k. has_place (noted by_code k) w.row.0) o true) c) ∙ h
 
 pub code_leads : (n : Notes) (table : TableId) (columns : List ℕ) (asked : List Value) (code : ℕ) → WellKept n → n.mixed ≡ false → list_any (is_key table columns) n.known.items ≡ true
-    → key_code table columns asked ≡ Some code → Leads n.slots.items (noted n.by_code.rows code) table columns asked
+    → key_code table columns asked ≡ Some code → Leads n.slots.items (noted n.by_code code) table columns asked
 code_leads n table columns asked code well mixed known is = λ p q w v e f t r h.
     let one = one_table w v (sym (ap (passes (is_apart v)) e) ∙ none_at (is_apart v) n.slots.items ((well.listed q v f).apart mixed) p) r in
-    let k = found_key (is_key table columns) (is_coded v q n.by_code) n.known.items known (well.listed q v f).coded in
+    let k = found_key (is_key table columns) (is_coded v n.by_code) n.known.items known (well.listed q v f).coded in
     let ks = both (k.0.table.0 == table.0) (pointwise nat_eq k.0.columns.items columns) k.1 in
     let of_table : k.0.table.0 ≡ table.0 = eqb-true k.0.table.0 table.0 ks.0 in
     let of_columns : k.0.columns.items ≡ columns = (bytes_eq-Decides k.0.columns.items columns).0 ks.1 in
     let c = coded_alike table columns asked v.values h in
     let same : Some c.0 ≡ Some code = sym c.1 ∙ is in
     let coded : note_code k.0 v ≡ Some code = ap (λ t'. option_and_then (λ row. code_from t' k.0.columns.items row) v.values) of_table ∙ ap (λ cs. option_and_then (λ row. code_from table.0 cs row) v.values) of_columns ∙ c.2 ∙ same in
-    let used = used_by_code v q n.by_code k.0 code (sym one ∙ eqb-true w.table.0 table.0 t ∙ sym of_table) coded k.2 in
-    subst (λ r. has_place (noted n.by_code.rows code) r ≡ true) (eqb-true v.row.0 w.row.0 r) (both (has_place (noted n.by_code.rows code) v.row.0) (has_place (noted n.by_code.notes (mix v.row.0 code)) q) used).0
+    let listed = listed_by_code v n.by_code k.0 code (sym one ∙ eqb-true w.table.0 table.0 t ∙ sym of_table) coded k.2 in
+    subst (λ r. has_place (noted n.by_code code) r ≡ true) (eqb-true v.row.0 w.row.0 r) listed
 
 -- the row of whichever note took the key is a candidate
 pub taking_row : (committed : TxId → Bool) (slots : List (Option Noted)) (candidates : List ℕ) (table : TableId) (tx : TxId) (except : Option RowId) (asked : List Value) (columns : List ℕ)

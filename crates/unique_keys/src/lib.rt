@@ -2,7 +2,6 @@
 #![tactic(auto)]
 
 mod blocking;
-mod code_lists;
 mod codes;
 mod key_index;
 mod keys;

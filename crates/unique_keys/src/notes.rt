@@ -5,12 +5,10 @@ ghost use Rattle.std.specs.Option.{option_copied};
 ghost use Rattle.places.specs.Noted.{has_place, noted};
 ghost use Rattle.row_versions.specs.Members.{same_tx};
 ghost use Rattle.unique_keys.specs.Writes.{notes_without};
-ghost use Rattle.unique_keys.specs.Inner.Codes.{mix};
-ghost use Rattle.unique_keys.specs.Inner.Slots.{at, is_elsewhere, kept, passes};
+ghost use Rattle.unique_keys.specs.Inner.Slots.{at, is_elsewhere, kept, passes, Listed};
 ghost use Rattle.unique_keys.specs.Inner.WellKept.{AreAll, IsListed, Leads, WellKept};
 
-use crate::code_lists::CodeLists;
-use crate::codes::{key_code, mix};
+use crate::codes::key_code;
 use crate::known::{KnownKey, add_codes, is_known, strike_codes};
 use crate::listing::{add, push_place, strike};
 use crate::noted::Noted;
@@ -26,12 +24,10 @@ pub struct Notes {
     pub slots: Vec<Option<Noted>>,
     /// Every row.
     all: Vec<usize>,
-    /// From a code to the rows that have, or had, a known key of that code.
-    by_code: CodeLists,
+    /// From a code to rows among which are all that were given a known key of that code: each once.
+    by_code: Places,
     /// From a row to the places of its notes.
     pub by_row: Places,
-    /// From a row and a transaction to the places of the notes of both.
-    by_writer: Places,
     /// From a transaction to the places of its notes.
     by_tx: Places,
     known: Vec<KnownKey>,
@@ -90,9 +86,8 @@ impl Notes {
             alloc,
             slots: Vec::new(alloc),
             all: Vec::new(alloc),
-            by_code: CodeLists::new(alloc),
+            by_code: Places::new(alloc),
             by_row: Places::new(alloc),
-            by_writer: Places::new(alloc),
             by_tx: Places::new(alloc),
             known: Vec::new(alloc),
             mixed: false,
@@ -167,8 +162,7 @@ impl Notes {
         list_row(&mut self.all, &self.by_row, note.row)?;
         add(&mut self.by_row, note.row.0, place)?;
         add(&mut self.by_tx, note.tx.0, place)?;
-        add(&mut self.by_writer, mix(note.row.0, note.tx.0), place)?;
-        add_codes(&mut self.by_code, &self.known, note, place)?;
+        add_codes(&mut self.by_code, &self.known, note)?;
         Ok(())
     }
 
@@ -185,7 +179,7 @@ impl Notes {
         Ok(())
     }
 
-    /// Empties the slot at the place, and strikes it where its note was listed by its row, its row and its transaction, and its keys.
+    /// Empties the slot at the place, and strikes it where its note was listed by its row. If that leaves no note of the row, strikes the row where it was listed by the note's keys.
     fn empty(&mut self, place: usize)
         requires { WellKept self.old }
         ensures slots { self.new.slots.items ≡ set self.old.slots.items place None }
@@ -194,8 +188,9 @@ impl Notes {
     {
         if let Some(note) = take(&mut self.slots, place) {
             strike(&mut self.by_row, note.row.0, place);
-            strike(&mut self.by_writer, mix(note.row.0, note.tx.0), place);
-            strike_codes(&mut self.by_code, &self.known, &note, place);
+            if self.by_row.at(note.row.0).is_empty() {
+                strike_codes(&mut self.by_code, &self.known, &note);
+            }
         }
     }
 
@@ -270,11 +265,18 @@ impl Notes {
         Ok(())
     }
 
-    /// Places among which are those of all notes of the row by the transaction.
+    /// Places among which are those of all notes of the row by the transaction: the row's or the transaction's, whichever are fewer.
     pub fn written(&self, row: RowId, tx: TxId) -> &[usize]
-        ensures { result.now ≡ noted self.now.by_writer (mix row.0 tx.0) }
+        requires { WellKept self.now }
+        ensures { Listed self.now.slots.items result.now (λ w. (w.row.0 == row.0) && same_tx w.tx tx) }
     {
-        self.by_writer.at(mix(row.0, tx.0))
+        let of_row = self.by_row.at(row.0);
+        let of_tx = self.by_tx.at(tx.0);
+        if of_row.len() < of_tx.len() {
+            of_row
+        } else {
+            of_tx
+        }
     }
 
     /// Rows among which are all that may have the key: by its code where it is known, else every row.
@@ -286,7 +288,7 @@ impl Notes {
             return self.all.as_slice();
         }
         match key_code(table, columns, asked) {
-            Some(code) => self.by_code.rows(code),
+            Some(code) => self.by_code.at(code),
             None => &[],
         }
     }

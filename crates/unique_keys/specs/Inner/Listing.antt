@@ -7,8 +7,7 @@ use Rattle.places.specs.Noted.{has_no_place_twice, has_place, noted}
 use Rattle.row_versions.specs.declared.names.TableId.{TableId}
 use Rattle.unique_keys.specs.declared.noted.Noted.{Noted}
 use Rattle.unique_keys.specs.declared.known.KnownKey.{KnownKey}
-use Rattle.unique_keys.specs.declared.code_lists.CodeLists.{CodeLists}
-use Rattle.unique_keys.specs.Inner.Codes.{mix, note_code}
+use Rattle.unique_keys.specs.Inner.Codes.{note_code}
 use Rattle.unique_keys.specs.Inner.Slots.{Rises}
 
 -- all lists rise, up to the limit
@@ -38,22 +37,14 @@ Shrunk place old new = (number : ℕ) → ShrunkList place (noted old number) (n
 abbrev pub is_key : TableId → List ℕ → KnownKey → Bool
 is_key table columns key = (key.table.0 == table.0) && pointwise nat_eq key.columns.items columns
 
--- the row is listed by the code, and the place of its note by both
-abbrev pub is_used : CodeLists → ℕ → ℕ → ℕ → Bool
-is_used lists row place code = has_place (noted lists.rows code) row && has_place (noted lists.notes (mix row code)) place
-
 -- each row is listed once for a code
-abbrev pub AreOnce : CodeLists → Type 0
-AreOnce lists = (code : ℕ) → has_no_place_twice (noted lists.rows code)
+abbrev pub AreOnce : Places → Type 0
+AreOnce by_code = (code : ℕ) → has_no_place_twice (noted by_code code)
 
--- what was listed still is
-abbrev pub KeepsUses : CodeLists → CodeLists → Type 0
-KeepsUses old new = (row p code : ℕ) → is_used old row p code ≡ true → is_used new row p code ≡ true
+-- the rows that were listed for a code still are
+abbrev pub KeepsRows : Places → Places → Type 0
+KeepsRows old new = (row code : ℕ) → has_place (noted old code) row ≡ true → has_place (noted new code) row ≡ true
 
--- but for the place
-abbrev pub KeepsOtherUses : ℕ → CodeLists → CodeLists → Type 0
-KeepsOtherUses place old new = (row p code : ℕ) → (p == place) ≡ false → is_used old row p code ≡ true → is_used new row p code ≡ true
-
--- if the note is of the key's table, and has values of which none in the key is NULL, it is listed by its code
-abbrev pub is_coded : Noted → ℕ → CodeLists → KnownKey → Bool
-is_coded w place lists key = not (w.table.0 == key.table.0) || option_map_or (λ code. is_used lists w.row.0 place code) (note_code key w) true
+-- if the note is of the key's table, and has values of which none in the key is NULL, its row is listed for its code
+abbrev pub is_coded : Noted → Places → KnownKey → Bool
+is_coded w by_code key = not (w.table.0 == key.table.0) || option_map_or (λ code. has_place (noted by_code code) w.row.0) (note_code key w) true

@@ -8,16 +8,14 @@ use Rattle.row_versions.specs.declared.names.TableId.{TableId}
 use Rattle.unique_keys.specs.declared.noted.Noted.{Noted}
 use Rattle.unique_keys.specs.declared.notes.Notes.{Notes}
 use Rattle.unique_keys.specs.Keys.{has_key}
-use Rattle.unique_keys.specs.Inner.Codes.{mix}
 use Rattle.unique_keys.specs.Inner.Slots.{at, is_elsewhere, kept}
 use Rattle.unique_keys.specs.Inner.Listing.{AreOnce, Rising, is_coded}
 
--- the note at the place is listed: for its row, for its transaction, for both, and for each known key that it has
+-- the note at the place is listed: for its row and for its transaction; and its row is listed for each known key that it has
 pub record IsListed (notes : Notes) (w : Noted) (place : ℕ) : Type 0 where
   pub in_row : has_place (noted notes.by_row w.row.0) place ≡ true
   pub in_tx : has_place (noted notes.by_tx w.tx.0) place ≡ true
-  pub in_writer : has_place (noted notes.by_writer (mix w.row.0 w.tx.0)) place ≡ true
-  pub coded : list_all (is_coded w place notes.by_code) notes.known.items ≡ true
+  pub coded : list_all (is_coded w notes.by_code) notes.known.items ≡ true
   pub apart : notes.mixed ≡ false → list_any (is_elsewhere w.table w.row) (kept notes.slots.items) ≡ false
 
 -- each row for which a place is listed is among all

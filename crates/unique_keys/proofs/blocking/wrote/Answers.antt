@@ -11,7 +11,7 @@ use Rattle.unique_keys.proofs.blocking.wrote.Goals as goal
 pub returns : goal.returns
 returns c =
     let test = λ (w : Noted). ((w.row.0 == c.args.row.0) && same_tx w.tx c.args.tx) && (w.table.0 == c.args.table.0) in
-    any_of_writer c.args.notes.now c.args.row c.args.tx test c.written-places.result.now c.any.result c.requires
+    any_of_writer c.args.notes.now c.args.row c.args.tx test c.written-places.result.now c.any.result
     (λ w h. (both ((w.row.0 == c.args.row.0) && same_tx w.tx c.args.tx) (w.table.0 == c.args.table.0) h).0)
     c.written-places.ensures
     (any_from_yields_List (λ p. passes test (at c.args.notes.now.slots.items p)) _ _ c.any.result c.any.ensures.ran (YieldsList-from_slice c.written-places.result.now cc) (λ x b q k. search (rules, tests)))

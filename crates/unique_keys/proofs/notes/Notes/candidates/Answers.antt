@@ -13,7 +13,7 @@ pub returns-in-Some : goal.returns-in-Some
 returns-in-Some c =
     let is : c.is_known.result ≡ true = search rules in
     let known : list_any (is_key c.args.table c.args.columns.now) c.args.self.now.known.items ≡ true = ap (list_any (is_key c.args.table c.args.columns.now)) (sym c.deref.ensures.value) ∙ sym c.is_known.ensures ∙ is in
-    subst (λ l. Leads c.args.self.now.slots.items l c.args.table c.args.columns.now c.args.asked.now) (sym c.rows.ensures)
+    subst (λ l. Leads c.args.self.now.slots.items l c.args.table c.args.columns.now c.args.asked.now) (sym c.at.ensures)
     (code_leads c.args.self.now c.args.table c.args.columns.now c.args.asked.now c.in-Some.code c.requires c.if-self.false known (sym c.key_code.ensures ∙ c.in-Some.is))
 
 pub returns-in-None : goal.returns-in-None
