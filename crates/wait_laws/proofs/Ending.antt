@@ -1,5 +1,5 @@
 -- An event ends no transaction but the one that does it, and that is open afterwards exactly where its session is in it.
-use Rattle.std.proofs.Common.{◌≡◌, ◌↔◌, refl, sym, ◌∙◌, ap, subst, ◌⊎◌, inl, inr, ℕ, ◌<◌, ◌++◌, List, [], ◌∷◌, length, set, arith}
+use Rattle.std.proofs.Common.{◌≡◌, ◌↔◌, refl, sym, ◌∙◌, ap, subst, ◌⊎◌, inl, inr, ℕ, ◌<◌, List, [], ◌∷◌, length, length-set, set, arith}
 use Rattle.std.specs.Prelude.{Some, slice_get, Ok}
 use Rattle.std.proofs.lemmas.Option.{same_Some, slice_get_within}
 use Rattle.row_versions.specs.declared.names.TxId.{TxId}
@@ -54,8 +54,7 @@ open_start db (Open t) u ne o = o
 next_not : (db : Database) → IsOpen db.content (next_tx db.content) → ⊥
 next_not db o = let below : length db.content.fates < length db.content.fates = slice_get_within db.content.fates (length db.content.fates) OpenFate o in omega arith
 
--- the transaction that does an event is open before it only where the session is in it
-pub was_open : (db : Database) (tr : Transaction) → IsOpen db.content (doer db tr) → (t : OpenTransaction) × (tr ≡ Open t)
+was_open : (db : Database) (tr : Transaction) → IsOpen db.content (doer db tr) → (t : OpenTransaction) × (tr ≡ Open t)
 was_open db Closed o = absurd (next_not db o)
 was_open db Aborted o = absurd (next_not db o)
 was_open db (Open t) o = (t, refl)
@@ -107,25 +106,34 @@ leaves_next given mode m event s u n at there h = subst (λ (y : Machine). Leave
     one = λ t f. (r.own t f).0;
   }
 
+-- the session is there afterwards, and all others
+pub after_there : (given : Blocks) (mode : Mode) (m : Machine) (event : Event) (s : Session) (n : Next) → slice_get m.sessions (session_of event) ≡ Some s → next given mode m event ≡ Ok n
+    → (u : Session) × (slice_get n.machine.sessions (session_of event) ≡ Some u) × (length n.machine.sessions ≡ length m.sessions)
+after_there given mode m event s n at h =
+    let x = doer m.db s.transaction in
+    let k = moved (StayOpen x m.db) (StayOpen x m.db) (λ v. Unit {0}) given mode m event s n at (open_keeps x (command_in s.transaction) m.db) (allows_all m.db s.transaction s.statement)
+    (open_start m.db s.transaction) h in (
+      k.u,
+      ap (λ (y : Machine). slice_get y.sessions (session_of event)) k.is ∙ slice_get-set_same m.sessions (session_of event) k.u (slice_get_within m.sessions (session_of event) s at),
+      ap (λ (y : Machine). length y.sessions) k.is ∙ length-set m.sessions (session_of event) k.u,
+    )
+
+-- the transaction that does an event is open before it only where the session is in it
+pub opened_before : (m : Machine) (s : Session) → IsOpen m.db.content (doer_of m s) → (t : OpenTransaction) × (s.transaction ≡ Open t)
+opened_before m s o = was_open m.db s.transaction (subst (IsOpen m.db.content) (sym (doer_at m.db s.transaction)) o)
+
+still : (event : Event) (u : Session) (after : Machine) → IsOrderly after → slice_get after.sessions (session_of event) ≡ Some u → (x : TxId) → Its x u → IsOpen after.db.content x
+still event u after sound there x w =
+    subst (IsOpen after.db.content) w.2 (sound.opened (session_of event) w.0.tx.0 (ap tx_of there ∙ ap tx_in w.1))
+
 pub transactions_end_themselves : TransactionsEndThemselves
 transactions_end_themselves = record {
   others = λ given mode count m reached event n h s at.
       let u = after_there given mode m event s n at h in
       subst (λ (x : TxId). StayOpen x m.db n.machine.db) (doer_at m.db s.transaction) (leaves_next given mode m event s u.0 n at u.1 h).others;
   stays = λ given mode count m reached event n h s u at there.
+      let sound = orderly_next given mode m event n (orderly_there given mode count m reached) h in
       subst (λ (x : TxId). IsOpen n.machine.db.content x ↔ Its x u) (doer_at m.db s.transaction)
-      ((leaves_next given mode m event s u n at there h).over, λ w. still given mode m event u n (orderly_next given mode m event n (orderly_there given mode count m reached) h) there (doer m.db s.transaction) w);
+      ((leaves_next given mode m event s u n at there h).over, λ w. still event u n.machine sound there (doer m.db s.transaction) w);
   one = λ given mode count m reached event n h s u at there t f. (leaves_next given mode m event s u n at there h).one t f ∙ doer_at m.db s.transaction;
-} where
-  after_there : (given : Blocks) (mode : Mode) (m : Machine) (event : Event) (s : Session) (n : Next) → slice_get m.sessions (session_of event) ≡ Some s → next given mode m event ≡ Ok n
-      → (u : Session) × (slice_get n.machine.sessions (session_of event) ≡ Some u)
-  after_there given mode m event s n at h =
-      let x = doer m.db s.transaction in
-      let k = moved (StayOpen x m.db) (StayOpen x m.db) (λ v. Unit {0}) given mode m event s n at (open_keeps x (command_in s.transaction) m.db) (allows_all m.db s.transaction s.statement)
-      (open_start m.db s.transaction) h in
-      (k.u, ap (λ (y : Machine). slice_get y.sessions (session_of event)) k.is ∙ slice_get-set_same m.sessions (session_of event) k.u (slice_get_within m.sessions (session_of event) s at))
-
-  still : (given : Blocks) (mode : Mode) (m : Machine) (event : Event) (u : Session) (n : Next) → IsOrderly n.machine → slice_get n.machine.sessions (session_of event) ≡ Some u
-      → (x : TxId) → Its x u → IsOpen n.machine.db.content x
-  still given mode m event u n sound there x w =
-      subst (IsOpen n.machine.db.content) w.2 (sound.opened (session_of event) w.0.tx.0 (ap tx_of there ∙ ap tx_in w.1))
+}

@@ -1,6 +1,6 @@
 use Rattle.sql_blocks.specs.Blocks.{blocks_of}
 use Rattle.session_core.proofs.Holding.{kept_launched, kept_left}
-use Rattle.session_core.proofs.live.Live.act.Goals as goal
+use Rattle.session_core.proofs.live.Live.did.Goals as goal
 
 pub returns-in-Launch-clause-kept : goal.returns-in-Launch-clause-kept
 returns-in-Launch-clause-kept g c count reached =
