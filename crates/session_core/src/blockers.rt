@@ -51,10 +51,13 @@ impl Blockers {
     pub fn add(&mut self, tx: TxId) -> Result<(), AllocError>
         ensures { OnOk result ((u : TxFacts) → has self.new u ≡ (has self.old u || same_tx tx u)) }
     {
-        if place_of(&self.by, tx).is_none() {
-            self.by.push(tx)?;
+        match place_of(&self.by, tx) {
+            Some(_) => Ok(()),
+            None => {
+                self.by.push(tx)?;
+                Ok(())
+            }
         }
-        Ok(())
     }
 
     /// The transaction doesn't stand in the way any more. It takes no memory.

@@ -418,9 +418,9 @@ ran_fails : (P Q : Database → Type 0) (V : View → Type 0) (ss : List Session
     → Ran t.tx t.command P Q V ss (fails e t fault)
 ran_fails P Q V ss e t fault keeps p =
     record { db = keeps.roll_back e p; own = λ u h. absurd (never t.explicit u h); over = λ shut. ended_rolled_back e t.tx; waits = λ q h. absurd (none_not q h) } where
-  never : (b : Bool) (u : OpenTransaction) → (if b then Aborted else Closed) ≡ Open u → ⊥
-  never true u h = cc
-  never false u h = cc
+      never : (b : Bool) (u : OpenTransaction) → (if b then Aborted else Closed) ≡ Open u → ⊥
+      never true u h = cc
+      never false u h = cc
 
 ran_open : (P Q : Database → Type 0) (V : View → Type 0) (ss : List Session) (e : Database) (t v : OpenTransaction) (outcome : Reply) → v.tx ≡ t.tx → Keeps t.tx t.command P Q → P e
     → Ran t.tx t.command P Q V ss (record { db = e; transaction = Open v; statement = None; outcome = outcome })

@@ -20,7 +20,7 @@ use Rattle.session_machine.specs.Sound.{command_in, tx_in, tx_of}
 use Rattle.wait_laws.specs.Laws.{TransactionsEndThemselves, doer_of}
 use Rattle.wait_laws.proofs.Doing.{Keeps, Ran, doer, start}
 use Rattle.wait_laws.proofs.Cycles.{IsOrderly, allows_all, orderly_next, orderly_there}
-use Rattle.wait_laws.proofs.Events.{Moved, Rests, left_as, moved, session_there}
+use Rattle.wait_laws.proofs.Events.{Moved, Rests, left_as, moved}
 use Rattle.wait_laws.proofs.Mending.{doer_at}
 
 -- all others stay open
