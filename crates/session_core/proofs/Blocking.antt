@@ -1,6 +1,6 @@
 -- Those who are kept as standing in the way of waits are those of the present state, after each event.
 use Rattle.std.proofs.Common.{◌≡◌, refl, sym, ◌∙◌, ap, subst, Bool, true, false, not, ◌&&◌, ◌||◌, ⊎_elim, ◌⊎◌, inl, inr, ℕ, zero, suc, ◌+◌, ◌<◌, ◌≤◌, List, [], ◌∷◌, length, length-set, set, replicate, arith}
-use Rattle.std.specs.Prelude.{Option, Some, None, option_map, slice_get, unwrap_or, Result, Ok, Err}
+use Rattle.std.specs.Prelude.{IfSome, Option, Some, None, option_map, slice_get, unwrap_or, Result, Ok, Err}
 use Rattle.std.specs.Option.{option_map_or}
 use Rattle.std.proofs.lemmas.Bool.{cases_eq}
 use Rattle.std.proofs.lemmas.List.{length-replicate}
@@ -66,6 +66,13 @@ still_by (Some w) = refl
 -- a session is still blocked where somebody is kept who stands in its way
 pub kept_blocks : (m : Machine) (lists : Lists) (k : ℕ) (s : Session) → AreBlockers m lists → slice_get m.sessions k ≡ Some s → not (is_none_of (blockers_kept lists k)) ≡ is_still_blocked m.db s
 kept_blocks m lists k s are at = ap not (none_same (blockers_kept lists k) (in_the_way m.db s) (are.each k s at)) ∙ still_by (waiting_in m.db s)
+
+pub blocked_so : (m : Machine) (lists : Lists) (k : ℕ) (blocked : Bool) → AreBlockers m lists → blocked ≡ not (is_none_of (blockers_kept lists k))
+    → IfSome (slice_get m.sessions k) (λ s. blocked ≡ is_still_blocked m.db s)
+blocked_so m lists k blocked are is = by (slice_get m.sessions k) refl where
+  by : (o : Option Session) → slice_get m.sessions k ≡ o → IfSome o (λ s. blocked ≡ is_still_blocked m.db s)
+  by None e = tt
+  by (Some s) e = is ∙ kept_blocks m lists k s are e
 
 -- ---- the opening
 

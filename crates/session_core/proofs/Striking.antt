@@ -26,23 +26,28 @@ same_place p q h = cc
 
 found_from : (tx : TxId) (k : ℕ) (xs : List TxId) (p : ℕ) → place_from tx k xs ≡ Some p → (i : ℕ) × (p ≡ k + i) × OneLess tx xs i
 found_from tx k [] p h = absurd (no_place p h)
-found_from tx k (x ∷ xs) p h = by (same_tx x tx) refl h where
-  by : (b : Bool) → same_tx x tx ≡ b → cond b (Some k) (place_from tx (k + 1) xs) ≡ Some p → (i : ℕ) × (p ≡ k + i) × OneLess tx (x ∷ xs) i
-  by true e g = (0, (let is = same_place k p g in omega arith), record {
+found_from tx k (x ∷ xs) p h = by (found_from tx (k + 1) xs p) (same_tx x tx) refl h where
+  here : same_tx x tx ≡ true → OneLess tx (x ∷ xs) 0
+  here e = record {
     within = omega arith;
     fewer = omega arith;
     others = λ u ne. sym (ap (λ b. b || has xs u) (ap (λ (t : TxId). same_tx t u) (same_is x tx e) ∙ ne));
-  })
-  by false e g =
-      let r = found_from tx (k + 1) xs p g in
-      let less = r.2 in
+  }
+
+  behind : (i : ℕ) → OneLess tx xs i → OneLess tx (x ∷ xs) (suc i)
+  behind i less =
       let within = less.within in
       let fewer = less.fewer in
-      (suc r.0, (let is = r.1 in omega arith), record {
+      record {
         within = omega arith;
         fewer = omega arith;
         others = λ u ne. ap (λ b. same_tx x u || b) (less.others u ne);
-      })
+      }
+
+  by : (place_from tx (k + 1) xs ≡ Some p → (i : ℕ) × (p ≡ (k + 1) + i) × OneLess tx xs i) → (b : Bool) → same_tx x tx ≡ b
+      → (let o : Option ℕ = cond b (Some k) (place_from tx (k + 1) xs) in o ≡ Some p) → (i : ℕ) × (p ≡ k + i) × OneLess tx (x ∷ xs) i
+  by later true e g = let is = same_place k p g in (0, omega arith, here e)
+  by later false e g = let r = later g in let is = r.1 in (suc r.0, omega arith, behind r.0 r.2)
 
 pub found_at : (tx : TxId) (xs : List TxId) (p : ℕ) → place_from tx 0 xs ≡ Some p → OneLess tx xs p
 found_at tx xs p h =
@@ -52,21 +57,21 @@ found_at tx xs p h =
 
 pub none_at : (tx : TxId) (k : ℕ) (xs : List TxId) → place_from tx k xs ≡ None → has xs tx ≡ false
 none_at tx k [] h = refl
-none_at tx k (x ∷ xs) h = by (same_tx x tx) refl h where
-  by : (b : Bool) → same_tx x tx ≡ b → (let o : Option ℕ = cond b (Some k) (place_from tx (k + 1) xs) in o ≡ None) → has (x ∷ xs) tx ≡ false
-  by true e g = absurd (some_place k g)
-  by false e g = ap (λ b. b || has xs tx) e ∙ none_at tx (k + 1) xs g
+none_at tx k (x ∷ xs) h = by (none_at tx (k + 1) xs) (same_tx x tx) refl h where
+  by : (place_from tx (k + 1) xs ≡ None → has xs tx ≡ false) → (b : Bool) → same_tx x tx ≡ b → (let o : Option ℕ = cond b (Some k) (place_from tx (k + 1) xs) in o ≡ None) → has (x ∷ xs) tx ≡ false
+  by later true e g = absurd (some_place k g)
+  by later false e g = ap (λ b. b || has xs tx) e ∙ later g
 
 pub some_at : (tx : TxId) (k : ℕ) (xs : List TxId) (p : ℕ) → place_from tx k xs ≡ Some p → has xs tx ≡ true
 some_at tx k [] p h = absurd (no_place p h)
-some_at tx k (x ∷ xs) p h = by (same_tx x tx) refl h where
+some_at tx k (x ∷ xs) p h = by (some_at tx (k + 1) xs p) (same_tx x tx) refl h where
   or_true : (b : Bool) → (b || true) ≡ true
   or_true true = refl
   or_true false = refl
 
-  by : (b : Bool) → same_tx x tx ≡ b → cond b (Some k) (place_from tx (k + 1) xs) ≡ Some p → has (x ∷ xs) tx ≡ true
-  by true e g = ap (λ b. b || has xs tx) e
-  by false e g = ap (λ b. same_tx x tx || b) (some_at tx (k + 1) xs p g) ∙ or_true (same_tx x tx)
+  by : (place_from tx (k + 1) xs ≡ Some p → has xs tx ≡ true) → (b : Bool) → same_tx x tx ≡ b → cond b (Some k) (place_from tx (k + 1) xs) ≡ Some p → has (x ∷ xs) tx ≡ true
+  by later true e g = ap (λ b. b || has xs tx) e
+  by later false e g = ap (λ b. same_tx x tx || b) (later g) ∙ or_true (same_tx x tx)
 
 -- who isn't struck is there still
 pub record Struck (tx : TxId) (old now : List TxId) : Type 0 where
@@ -99,10 +104,10 @@ has_more [] t u = or_none (same_tx t u) where
   or_none : (b : Bool) → (b || false) ≡ b
   or_none true = refl
   or_none false = refl
-has_more (x ∷ xs) t u = by (same_tx x u) where
-  by : (b : Bool) → (b || has (xs ++ t ∷ []) u) ≡ ((b || has xs u) || same_tx t u)
-  by true = refl
-  by false = has_more xs t u
+has_more (x ∷ xs) t u = by (has_more xs t u) (same_tx x u) where
+  by : has (xs ++ t ∷ []) u ≡ (has xs u || same_tx t u) → (b : Bool) → (b || has (xs ++ t ∷ []) u) ≡ ((b || has xs u) || same_tx t u)
+  by later true = refl
+  by later false = later
 
 -- who is there already needs no place more
 pub there_already : (xs : List TxId) (t u : TxId) (p : ℕ) → place_from t 0 xs ≡ Some p → has xs u ≡ (has xs u || same_tx t u)

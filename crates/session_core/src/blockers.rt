@@ -20,7 +20,7 @@ pub struct Blockers {
 impl Model for Blockers {
     ghost use Rattle.std.specs.Prelude.{List};
     ghost use Rattle.std.specs.List.{position_from};
-ghost use Rattle.row_versions.specs.declared.names.TxId.{TxId as TxFacts};
+    ghost use Rattle.row_versions.specs.declared.names.TxId.{TxId as TxFacts};
 
     ghost Value = { List TxFacts };
 
@@ -79,7 +79,7 @@ pub struct AllBlockers {
 impl Model for AllBlockers {
     ghost use Rattle.std.specs.Prelude.{List};
     ghost use Rattle.std.specs.List.{position_from};
-ghost use Rattle.row_versions.specs.declared.names.TxId.{TxId as TxFacts};
+    ghost use Rattle.row_versions.specs.declared.names.TxId.{TxId as TxFacts};
 
     ghost Value = { List (List TxFacts) };
 

@@ -55,8 +55,7 @@ impl<'a, 't, V: Versions> Live<'a, 't, V> {
     {
         match (&session.transaction, &session.statement) {
             (Transaction::Open(by), Some(progress)) => {
-                self.db
-                    .is_blocked_by(holder, &progress.wait.request, by.tx)
+                self.db.is_blocked_by(holder, &progress.wait.request, by.tx)
             }
             _ => Ok(false),
         }
