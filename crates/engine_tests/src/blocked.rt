@@ -46,11 +46,12 @@ const ANOTHER_ROW: [Call; 2] = [
     (Step(0), "answered id | 2 and ended"),
 ];
 
-const THE_FIRST_COMMITS: [Call; 2] =
-    [(Launch(1, 5), "answered"), (Step(1), "answered and ended")];
+const THE_FIRST_COMMITS: [Call; 2] = [(Launch(1, 5), "answered"), (Step(1), "answered and ended")];
 
-const THE_OTHER_ROLLS_BACK: [Call; 2] =
-    [(Launch(3, 6), "answered"), (Step(3), "answered and ended")];
+const THE_OTHER_ROLLS_BACK: [Call; 2] = [
+    (Launch(3, 6), "answered"),
+    (Step(3), "answered and ended"),
+];
 
 const SHARERS: Run<'static> = Run {
     lines: &BLOCKS,

@@ -1,6 +1,6 @@
 -- Those who are kept as standing in the way of waits are those of the present state, after each event.
 use Rattle.std.proofs.Common.{◌≡◌, refl, sym, ◌∙◌, ap, subst, Bool, true, false, not, ◌&&◌, ◌||◌, ⊎_elim, ◌⊎◌, inl, inr, ℕ, zero, suc, ◌+◌, ◌<◌, ◌≤◌, List, [], ◌∷◌, length, length-set, set, replicate, arith}
-use Rattle.std.specs.Prelude.{IfSome, Option, Some, None, option_map, slice_get, unwrap_or, Result, Ok, Err}
+use Rattle.std.specs.Prelude.{IfSome, Option, Some, None, slice_get, unwrap_or, Result, Ok, Err, is_ok}
 use Rattle.std.specs.Option.{option_map_or}
 use Rattle.std.proofs.lemmas.Bool.{cases_eq}
 use Rattle.std.proofs.lemmas.List.{length-replicate}
@@ -20,21 +20,20 @@ use Rattle.session_machine.specs.declared.session.Transaction.{Transaction}
 use Rattle.session_machine.specs.declared.session.Transaction.TheVariants.{Closed, Open, Aborted}
 use Rattle.session_machine.specs.declared.event.Event.{Event}
 use Rattle.session_machine.specs.declared.event.Mode.{Mode}
-use Rattle.session_machine.specs.declared.reply.HistItem.{HistItem}
 use Rattle.session_machine.specs.declared.reply.Reply.{Reply}
 use Rattle.session_machine.specs.declared.fault.Refusal.{Refusal}
 use Rattle.session_machine.specs.Tables.{Database}
-use Rattle.session_machine.specs.Machine.{Machine, Blocks, Next, Run, at_rest, next, opening, session_of}
+use Rattle.session_machine.specs.Machine.{Machine, Blocks, Next, at_rest, next, opening, session_of}
 use Rattle.session_machine.specs.Waits.{blockers, is_still_blocked, waiting_in}
-use Rattle.session_machine.specs.Engine.{Engine}
+use Rattle.session_machine.specs.Engine.{Goes}
 use Rattle.session_core.specs.declared.mending.Doer.{Doer}
 use Rattle.session_core.specs.declared.mending.Doer.TheVariants.{GoesOn, Ends, Nobody}
-use Rattle.session_core.specs.Engines.{KeepsBlockers, in_the_way}
+use Rattle.session_core.specs.Engines.{in_the_way}
 use Rattle.session_core.specs.Inner.Answers.{engine_answer}
 use Rattle.session_core.specs.Inner.Blocking.{AreBlockers, AreMended, IsChanged, Lists, blockers_kept, doer_between, is_in_the_way, mended}
 use Rattle.session_core.proofs.Replaying.{answered_err, answered_ok, reaches_on}
 use Rattle.session_laws.proofs.Lists.{slice_get-set_other, slice_get-set_same}
-use Rattle.wait_laws.specs.Laws.{Reaches, doer_of}
+use Rattle.wait_laws.specs.Laws.{BlockersStayToTheirEnd, Reaches, TransactionsEndThemselves, doer_of}
 use Rattle.wait_laws.proofs.Begun.{begun_there, others_stay, rest_is}
 use Rattle.wait_laws.proofs.Ending.{after_there, opened_before, transactions_end_themselves}
 use Rattle.wait_laws.proofs.Events.{session_there}
@@ -199,7 +198,10 @@ module _ (given : Blocks) (mode : Mode) (count : ℕ) (m : Machine) (event : Eve
     now_open = λ e. law.opened given mode count n.machine (reaches_on given mode count m n.machine (record { event = event; reply = n.reply }) reached h) r tx x e;
     was_open = λ e. law.opened given mode count m reached r tx x e;
   } where
+    law : BlockersStayToTheirEnd
     law = blockers_stay_to_their_end
+
+    ends : TransactionsEndThemselves
     ends = transactions_end_themselves
 
   both : (y : TxId) → (y ≡ x) ⊎ (y ≡ x → ⊥)
@@ -264,6 +266,7 @@ module _ (given : Blocks) (mode : Mode) (count : ℕ) (m : Machine) (event : Eve
       → (v : Session) (was : List TxId) → SameMembers was (in_the_way m.db v) → (y : TxId)
       → mended n.machine.db v (doer_between s.transaction u.transaction) was y ≡ has (in_the_way n.machine.db v) y
   mended_to reached h at there v was same y = by_asks (asks v) where
+    ends : TransactionsEndThemselves
     ends = transactions_end_themselves
 
     now_its : IsOpen n.machine.db.content x → (t : OpenTransaction) × (u.transaction ≡ Open t)
@@ -379,3 +382,41 @@ blockers_answered given mode count m after event reply old now reached is are me
     let n : Next = record { machine = after; reply = reply } in
     let w = there_by given mode m after event reply is in
     blockers_next given mode count m event n w.s w.u old now reached (answered_ok m after (next given mode m event) reply is) w.at w.now are mends
+
+ok_there : (answer : Result Reply Refusal) → is_ok answer ≡ true → (reply : Reply) × (answer ≡ Ok reply)
+ok_there (Ok reply) e = (reply, refl)
+ok_there (Err refusal) e = cc
+
+err_there : (answer : Result Reply Refusal) → is_ok answer ≡ false → (refusal : Refusal) × (answer ≡ Err refusal)
+err_there (Ok reply) e = cc
+err_there (Err refusal) e = (refusal, refl)
+
+module _ (given : Blocks) (mode : Mode) (m after : Machine) (event : Event) (answer : Result Reply Refusal) (session : ℕ) (is : IsAfter given mode m event after answer) (its : session ≡ session_of event) where
+  done : (ok : is_ok answer ≡ true) → IsAfter given mode m event after (Ok (ok_there answer ok).0)
+  done ok = subst (λ (a : Result Reply Refusal). IsAfter given mode m event after a) (ok_there answer ok).1 is
+
+  pub within_after : is_ok answer ≡ true → session < length after.sessions
+  within_after ok =
+      let w = there_by given mode m after event (ok_there answer ok).0 (done ok) in
+      subst (λ k. k < length after.sessions) (sym its) (slice_get_within after.sessions (session_of event) w.u w.now)
+
+  pub long_after : (lists : Lists) → is_ok answer ≡ true → AreBlockers m lists → length lists ≡ length after.sessions
+  long_after lists ok are = are.long ∙ sym (there_by given mode m after event (ok_there answer ok).0 (done ok)).long
+
+  pub goes_ok : is_ok answer ≡ true → Goes given mode m event
+  goes_ok ok = (record { machine = after; reply = (ok_there answer ok).0 }, answered_ok m after (next given mode m event) (ok_there answer ok).0 (done ok))
+
+  pub blockers_left : (lists : Lists) → is_ok answer ≡ false → AreBlockers m lists → AreBlockers after lists
+  blockers_left lists refused are = let r = err_there answer refused in
+      blockers_refused given mode m after event r.0 lists (subst (λ (a : Result Reply Refusal). IsAfter given mode m event after a) r.1 is) are
+
+  pub blockers_mended : (count : ℕ) (was now_is : Transaction) (doer : Doer) (old now : Lists) → Reaches given mode count m → is_ok answer ≡ true
+      → IfSome (slice_get m.sessions session) (λ s. was ≡ s.transaction) → IfSome (slice_get after.sessions session) (λ s. now_is ≡ s.transaction) → doer ≡ doer_between was now_is
+      → AreBlockers m old → AreMended after doer session old now → AreBlockers after now
+  blockers_mended count was now_is doer old now reached ok before behind d are mends =
+      let w = there_by given mode m after event (ok_there answer ok).0 (done ok) in
+      let s_is : was ≡ w.s.transaction = subst (λ (o : Option Session). IfSome o (λ s. was ≡ s.transaction)) (ap (slice_get m.sessions) its ∙ w.at) before in
+      let u_is : now_is ≡ w.u.transaction = subst (λ (o : Option Session). IfSome o (λ s. now_is ≡ s.transaction)) (ap (slice_get after.sessions) its ∙ w.now) behind in
+      let doer_is : doer ≡ doer_between w.s.transaction w.u.transaction = d ∙ (ap (λ (a : Transaction). doer_between a now_is) s_is ∙ ap (λ (b : Transaction). doer_between w.s.transaction b) u_is) in
+      blockers_answered given mode count m after event (ok_there answer ok).0 old now reached (done ok) are
+      (subst (λ (x : Doer). AreMended after x (session_of event) old now) doer_is (subst (λ (k : ℕ). AreMended after doer k old now) its mends))

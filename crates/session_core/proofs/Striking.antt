@@ -1,10 +1,10 @@
 -- A transaction is looked for in a list of those who stand in the way, and taken out of it.
-use Rattle.std.proofs.Common.{◌≡◌, refl, sym, ◌∙◌, ap, Bool, true, false, cond, not, ◌&&◌, ◌||◌, ◌⊎◌, inl, inr, subst, ℕ, zero, suc, ◌+◌, ◌<◌, List, [], ◌∷◌, ◌++◌, length, remove, arith}
+use Rattle.std.proofs.Common.{◌≡◌, refl, sym, ◌∙◌, ap, Bool, true, false, cond, not, ◌&&◌, ◌||◌, ◌⊎◌, inl, inr, subst, ℕ, suc, ◌+◌, ◌<◌, List, [], ◌∷◌, ◌++◌, length, remove, arith}
 use Rattle.std.specs.Prelude.{Option, Some, None}
 use Rattle.std.specs.List.{position_from}
 use Rattle.row_versions.specs.declared.names.TxId.{TxId}
 use Rattle.row_versions.specs.Members.{has, same_tx}
-use Rattle.row_locks.proofs.Cases.{bool_is, is_same, same_is}
+use Rattle.row_locks.proofs.Cases.{bool_is, same_is}
 
 abbrev pub place_from : TxId → ℕ → List TxId → Option ℕ
 place_from tx k xs = position_from (λ other. same_tx other tx) k xs

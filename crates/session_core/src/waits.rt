@@ -1,7 +1,6 @@
 //! Sessions that wait, and those whose wait nothing blocks any more.
-ghost use Rattle.std.specs.Prelude.{◌≡◌, ◌<◌, IfSome, option_map, length, slice_get};
+ghost use Rattle.std.specs.Prelude.{◌≡◌, ◌<◌, Some, IfSome, option_map, length, slice_get};
 ghost use Rattle.session_machine.specs.Machine.{free_wait};
-ghost use Rattle.session_machine.specs.Tables.{Database};
 ghost use Rattle.session_machine.specs.Waits.{is_still_blocked};
 ghost use Rattle.session_core.specs.Inner.Blocking.{AreBlockers};
 ghost use Rattle.session_core.specs.Inner.Freed.{FreeWait, earliest_free, sooner};
@@ -27,19 +26,6 @@ impl Model for Free {
     ghost view = { λ f. record { number = f.number; session = f.session } };
 }
 
-/// The number of the session's wait, if it waits and nothing blocks it any more.
-fn free_wait(is_blocked: bool, session: &Session) -> Option<u64>
-    ensures { (db : Database) → is_blocked ≡ is_still_blocked db session.now → result ≡ free_wait db session.now }
-{
-    if is_blocked {
-        return None;
-    }
-    match &session.statement {
-        Some(progress) => Some(progress.wait.number),
-        None => None,
-    }
-}
-
 /// The sooner of a session's wait and another.
 fn sooner(number: Option<u64>, session: usize, other: Option<Free>) -> Option<Free>
     ensures { result ≡ sooner number session other }
@@ -60,6 +46,21 @@ impl<'a, 't, V: Versions> Live<'a, 't, V> {
         blockers.is_blocked(session)
     }
 
+    /// The number of the session's wait, if it waits and nothing blocks it any more.
+    fn free_wait(&self, blockers: &AllBlockers, session: usize, current: &Session) -> Option<u64>
+        requires blockers { AreBlockers self.now blockers.now }
+        requires its { slice_get self.now.sessions session ≡ Some current.now }
+        ensures { result ≡ free_wait self.now.db current.now }
+    {
+        if self.is_still_blocked(blockers, session) {
+            return None;
+        }
+        match &current.statement {
+            Some(progress) => Some(progress.wait.number),
+            None => None,
+        }
+    }
+
     /// The session that has waited longest of those whose wait nothing blocks any more.
     pub fn freed_session(&self, blockers: &AllBlockers) -> Option<usize>
         requires blockers { AreBlockers self.now blockers.now }
@@ -68,8 +69,7 @@ impl<'a, 't, V: Versions> Live<'a, 't, V> {
     {
         let mut first: Option<Free> = None;
         for k in (0..self.sessions.len()).rev() {
-            let is_blocked = self.is_still_blocked(blockers, k);
-            first = sooner(free_wait(is_blocked, &self.sessions[k]), k, first);
+            first = sooner(self.free_wait(blockers, k, &self.sessions[k]), k, first);
         }
         match first {
             Some(free) => Some(free.session),

@@ -1,5 +1,5 @@
 -- How those who stand in the way of waits are kept, and mended by what an event did.
-use Rattle.std.specs.Prelude.{◌≡◌, ◌<◌, ℕ, Bool, false, not, ◌&&◌, ◌||◌, List, [], length, Some, slice_get, unwrap_or}
+use Rattle.std.specs.Prelude.{◌≡◌, ℕ, Bool, not, ◌&&◌, ◌||◌, List, [], length, Some, slice_get, unwrap_or}
 use Rattle.row_versions.specs.declared.names.TxId.{TxId}
 use Rattle.row_versions.specs.Members.{has, same_tx}
 use Rattle.update_recheck.specs.Settling.{SameMembers}

@@ -1,4 +1,4 @@
-use Rattle.std.proofs.Common.{◌≡◌, ◌∙◌, ap, sym, arith, Some}
+use Rattle.std.proofs.Common.{◌∙◌, ap, sym, arith}
 use Rattle.session_core.proofs.Striking.{found_at, place_from, struck_end, struck_on}
 use Rattle.session_core.proofs.blockers.Blockers.strike.Goals as goal
 
