@@ -4,7 +4,7 @@ ghost use Rattle.row_versions.specs.Members.{has, is_distinct, is_none_of};
 ghost use Rattle.ordered_slots.specs.Kept.{kept, value_in};
 ghost use Rattle.row_locks.specs.declared.held.Held.{Held};
 ghost use Rattle.row_locks.specs.Held.{holders_against, with_lock, released, IsTaken, IsReleased};
-ghost use Rattle.row_locks.specs.Inner.Noting.{blocker_in};
+ghost use Rattle.row_locks.specs.Inner.Noting.{blocker_in, is_holder_in};
 ghost use Rattle.row_locks.specs.Inner.Searching.{is_against};
 
 use crate::held::{Held, is_against};
@@ -98,6 +98,18 @@ impl LockTable {
         false
     }
 
+    /// Whether that transaction is one of those that hold the row in conflict with the request of this one. It takes no memory.
+    pub fn is_held_by(&self, holder: TxId, row: RowId, tx: TxId, strength: Strength) -> bool
+        ensures { result ≡ has (holders_against self.now row tx strength) holder }
+    {
+        for slot in self.places.of_row(row) {
+            if is_held_at(&self.locks, *slot, holder, row, tx, strength) {
+                return true;
+            }
+        }
+        false
+    }
+
     /// The transaction holds nothing any more. It takes no memory.
     pub fn release(&mut self, tx: TxId)
         ensures held { IsReleased self.old tx self.new }
@@ -125,6 +137,23 @@ fn blocker_at(
     match locks.get(slot) {
         Some(held) if is_new_against(held, row, tx, strength, found) => Some(held.tx),
         _ => None,
+    }
+}
+
+/// Whether the lock in the slot is that holder's, and stands against the request.
+fn is_held_at(
+    locks: &OrderedSlots<Held>,
+    slot: usize,
+    holder: TxId,
+    row: RowId,
+    tx: TxId,
+    strength: Strength,
+) -> bool
+    ensures { result ≡ is_holder_in row tx strength holder (value_in (kept locks.now) slot) }
+{
+    match locks.get(slot) {
+        Some(held) => is_against(held, row, tx, strength) && held.tx.0 == holder.0,
+        None => false,
     }
 }
 

@@ -7,30 +7,64 @@ ghost use Rattle.row_locks.specs.Cycles.{blocks};
 ghost use Rattle.session_machine.specs.Waits.{blockers, is_blocked, waiting_in, waits_in};
 ghost use Rattle.row_versions.specs.Members.{has, same_tx};
 ghost use Rattle.session_database.specs.Inner.Waits.{stands_in_way_of};
+ghost use Rattle.update_recheck.specs.Settling.{SameMembers};
 
 use crate::database::Database;
 use crate::work::{Surroundings, Work};
 use row_locks::Waits;
 use row_versions::{RowId, TxId, Versions};
 use session_machine::{Request, Session, Transaction};
+use smallvec::SmallVec;
 use sql_trees::{Policy, Strength};
 use std::alloc::AllocError;
 
+/// Whether the transaction is one of these.
+fn is_among(found: &[TxId], tx: TxId) -> bool
+    ensures { result ≡ has found.now tx }
+{
+    found.iter().any(|other| other.0 == tx.0)
+}
+
 impl<'a, 't, V: Versions> Database<'a, 't, V> {
-    /// The transaction waits for who holds what it asks for.
-    fn add_request(&self, waits: &mut Waits, tx: TxId, request: &Request) -> Result<(), AllocError>
-        ensures { (a b : TxFacts) → OnOk result (blocks waits.new a b ≡ (blocks waits.old a b || (same_tx tx a && has (blockers self.now request.now tx) b))) }
+    /// Those who stand in the way of what the transaction asks for.
+    pub fn blockers(&self, request: &Request, tx: TxId) -> Result<SmallVec<TxId, 4>, AllocError>
+        ensures { IfOk result (λ found. SameMembers found.items (blockers self.now request.now tx)) }
     {
         match request {
             Request::Row { row, strength } => {
                 let found = self.locks.against(*row, tx, *strength)?;
-                waits.add(tx, found)
+                Ok(found)
+            }
+            Request::Key(asked) => self.holders(asked, tx),
+        }
+    }
+
+    /// Whether that transaction is one of those who stand in the way of what this one asks for.
+    pub fn is_blocked_by(
+        &self,
+        holder: TxId,
+        request: &Request,
+        tx: TxId,
+    ) -> Result<bool, AllocError>
+        ensures { IfOk result (λ yes. yes ≡ has (blockers self.now request.now tx) holder) }
+    {
+        match request {
+            Request::Row { row, strength } => {
+                Ok(self.locks.is_held_by(holder, *row, tx, *strength))
             }
             Request::Key(asked) => {
                 let found = self.holders(asked, tx)?;
-                waits.add(tx, found)
+                Ok(is_among(&found, holder))
             }
         }
+    }
+
+    /// The transaction waits for who holds what it asks for.
+    fn add_request(&self, waits: &mut Waits, tx: TxId, request: &Request) -> Result<(), AllocError>
+        ensures { (a b : TxFacts) → OnOk result (blocks waits.new a b ≡ (blocks waits.old a b || (same_tx tx a && has (blockers self.now request.now tx) b))) }
+    {
+        let found = self.blockers(request, tx)?;
+        waits.add(tx, found)
     }
 
     /// The session's wait, if it waits, is one more.

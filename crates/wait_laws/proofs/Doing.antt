@@ -1,5 +1,5 @@
 -- What a statement does, step by step: it takes locks, writes rows that it holds, makes and drops tables, and ends; and where it waits, its wait closes no cycle.
-use Rattle.std.proofs.Common.{◌≡◌, refl, sym, ◌∙◌, ap, subst, ◌⊎◌, inl, inr, Bool, true, false, not, ◌||◌, ◌==◌, ℕ, zero, suc, ◌+◌, List, [], ◌∷◌, ◌++◌}
+use Rattle.std.proofs.Common.{◌≡◌, refl, sym, ◌∙◌, ap, subst, ◌⊎◌, inl, inr, Bool, true, false, not, ◌||◌, ◌==◌, ℕ, zero, suc, ◌+◌, List, [], ◌∷◌, ◌++◌, set}
 use Rattle.std.specs.Prelude.{ℤ, flat_map, Option, Some, None, drop, slice_get, unwrap_or, Result, Ok, Err, if◌then◌else◌}
 use Rattle.std.specs.Option.{option_or}
 use Rattle.std.proofs.lemmas.Bool.{eqb-true}
@@ -22,7 +22,9 @@ use Rattle.row_versions.specs.declared.names.RowId.{RowId}
 use Rattle.row_versions.specs.declared.write.Write.{Write}
 use Rattle.row_versions.specs.declared.write.View.{View}
 use Rattle.row_versions.specs.declared.write.Seen.{Seen}
-use Rattle.row_versions.specs.Log.{Content, next_tx, new_row, values_at, after_write, fate_of}
+use Rattle.row_versions.specs.declared.write.Fate.{Fate}
+use Rattle.row_versions.specs.declared.write.Fate.TheVariants.{RolledBack, Committed, Open as OpenFate}
+use Rattle.row_versions.specs.Log.{Content, IsOpen, commit_count, next_tx, new_row, values_at, after_write, fate_of}
 use Rattle.row_versions.specs.Newest.{newest_of}
 use Rattle.row_versions.specs.Inner.Searching.{is_committed, is_version, newest_from}
 use Rattle.row_versions.proofs.Last.{newest_is}
@@ -98,10 +100,11 @@ pub record Comes (x : TxId) (P : Database → Type 0) (ss : List Session) (db : 
   pub kept : P db
   pub blocked : (r : Request) → stop ≡ Some (Blocked r) → Refused x ss db r
 
--- what a statement left
+-- what a statement left; where its session is in no transaction afterwards, its own is over
 pub record Ran (x : TxId) (n : ℕ) (P Q : Database → Type 0) (V : View → Type 0) (ss : List Session) (d : Effect) : Type 0 where
   pub db : Q d.db
   pub own : (u : OpenTransaction) → d.transaction ≡ Open u → (u.tx ≡ x) × P d.db
+  pub over : ((u : OpenTransaction) → d.transaction ≡ Open u → ⊥) → IsOpen d.db.content x → ⊥
   pub waits : (p : Progress) → d.statement ≡ Some p → Refused x ss d.db p.wait.request × V p.view × ((u : OpenTransaction) × (d.transaction ≡ Open u) × (u.command ≡ n))
 
 goes_not : (s : StmtFault) (r : Request) → Some (Fails s) ≡ Some (Blocked r) → ⊥
@@ -394,23 +397,38 @@ comes_insert_at P Q w put targets keeps db row p = made (new_values _ targets ro
       (keeps.insert db (record { tx = w.t.tx; command = w.t.command; table = record { 0 = w.table }; row = new_row db.content; values = Some values }) refl refl refl p))
       (keys_refuse db w put values None (keys_in db w)))
 
+-- a transaction that has ended isn't open
+pub ended : (fates : List Fate) (i : ℕ) (f : Fate) → (f ≡ OpenFate → ⊥) → slice_get (set fates i f) i ≡ Some OpenFate → ⊥
+ended [] i f ne h = none_not OpenFate h
+ended (g ∷ gs) zero f ne h = ne (same_fate f h) where
+  same_fate : (a : Fate) → Some a ≡ Some OpenFate → a ≡ OpenFate
+  same_fate a k = cc
+ended (g ∷ gs) (suc i) f ne h = ended gs i f ne h
+
+pub ended_committed : (db : Database) (x : TxId) → IsOpen (committed db x).content x → ⊥
+ended_committed db x = ended db.content.fates x.0 (Committed (commit_count db.content)) (λ k. cc)
+
+pub ended_rolled_back : (db : Database) (x : TxId) → IsOpen (rolled_back db x).content x → ⊥
+ended_rolled_back db x = ended db.content.fates x.0 RolledBack (λ k. cc)
+
 same_open : (t u : OpenTransaction) → Open t ≡ Open u → t ≡ u
 same_open t u h = cc
 
 ran_fails : (P Q : Database → Type 0) (V : View → Type 0) (ss : List Session) (e : Database) (t : OpenTransaction) (fault : StmtFault) → Keeps t.tx t.command P Q → P e
     → Ran t.tx t.command P Q V ss (fails e t fault)
-ran_fails P Q V ss e t fault keeps p = record { db = keeps.roll_back e p; own = λ u h. absurd (never t.explicit u h); waits = λ q h. absurd (none_not q h) } where
-  never : (b : Bool) (u : OpenTransaction) → (if b then Aborted else Closed) ≡ Open u → ⊥
-  never true u h = cc
-  never false u h = cc
+ran_fails P Q V ss e t fault keeps p =
+    record { db = keeps.roll_back e p; own = λ u h. absurd (never t.explicit u h); over = λ shut. ended_rolled_back e t.tx; waits = λ q h. absurd (none_not q h) } where
+      never : (b : Bool) (u : OpenTransaction) → (if b then Aborted else Closed) ≡ Open u → ⊥
+      never true u h = cc
+      never false u h = cc
 
 ran_open : (P Q : Database → Type 0) (V : View → Type 0) (ss : List Session) (e : Database) (t v : OpenTransaction) (outcome : Reply) → v.tx ≡ t.tx → Keeps t.tx t.command P Q → P e
     → Ran t.tx t.command P Q V ss (record { db = e; transaction = Open v; statement = None; outcome = outcome })
 ran_open P Q V ss e t v outcome same keeps p =
-    record { db = keeps.rest e p; own = λ u h. (ap (λ (y : OpenTransaction). y.tx) (sym (same_open v u h)) ∙ same, p); waits = λ q h. absurd (none_not q h) }
+    record { db = keeps.rest e p; own = λ u h. (ap (λ (y : OpenTransaction). y.tx) (sym (same_open v u h)) ∙ same, p); over = λ shut o. shut v refl; waits = λ q h. absurd (none_not q h) }
 
-ran_closed : (P Q : Database → Type 0) (V : View → Type 0) (ss : List Session) (x : TxId) (n : ℕ) (e : Database) → Q e → Ran x n P Q V ss (turns e Closed)
-ran_closed P Q V ss x n e q = record { db = q; own = λ u h. absurd (never u h); waits = λ q h. absurd (none_not q h) } where
+ran_closed : (P Q : Database → Type 0) (V : View → Type 0) (ss : List Session) (x : TxId) (n : ℕ) (e : Database) → Q e → (IsOpen e.content x → ⊥) → Ran x n P Q V ss (turns e Closed)
+ran_closed P Q V ss x n e q over = record { db = q; own = λ u h. absurd (never u h); over = λ shut. over; waits = λ q h. absurd (none_not q h) } where
   never : (u : OpenTransaction) → Closed ≡ Open u → ⊥
   never u h = cc
 
@@ -431,6 +449,7 @@ ran_ended P Q V before w f k keeps view c = by k.stop c.blocked where
   by (Some (Blocked r)) blocked = record {
     db = keeps.rest k.db c.kept;
     own = λ u h. (ap (λ (y : OpenTransaction). y.tx) (sym (same_open _ u h)), c.kept);
+    over = λ shut o. shut _ refl;
     waits = λ q h.
         let same = same_progress _ q h in
         (subst (λ (y : Progress). Refused w.t.tx w.around.sessions k.db y.wait.request) same (blocked r refl), subst (λ (y : Progress). V y.view) same view, (_, refl, refl));
@@ -558,8 +577,8 @@ ran_once P Q V db t around keeps view p = record {
   begins = λ level. ran_if P Q V around.sessions t.tx t.command t.explicit _ _ (ran_open P Q V around.sessions db t t _ refl keeps p) (ran_level P Q V around.sessions db t true (unwrap_or level t.level) keeps p);
   sets = λ level. ran_level P Q V around.sessions db t t.explicit level keeps p;
   stays = ran_open P Q V around.sessions db t t _ refl keeps p;
-  commits = ran_closed P Q V around.sessions t.tx t.command _ (keeps.commit db p);
-  rolls_back = ran_closed P Q V around.sessions t.tx t.command _ (keeps.roll_back db p);
+  commits = ran_closed P Q V around.sessions t.tx t.command _ (keeps.commit db p) (ended_committed db t.tx);
+  rolls_back = ran_closed P Q V around.sessions t.tx t.command _ (keeps.roll_back db p) (ended_rolled_back db t.tx);
   creates = λ c. ran_create P Q V around.sessions db t c _ keeps p;
   drops = λ d. let e = dropped db t d.if_exists d.names in subst (Ran t.tx t.command P Q V around.sessions) (sym (drops_by db t d.if_exists d.names))
       (ran_drop P Q V around.sessions db.content t e.db e.missing keeps (kept_dropped P Q t d.if_exists d.names keeps db p));
@@ -609,32 +628,33 @@ Allows V db (Open t) None = V (view_of db.content t)
 Allows V db (Open t) (Some g) = V (view_of db.content t) × V g.view
 Allows V db Aborted statement = Unit {0}
 
--- nothing was done, and no transaction is open
-pub record Idles (db : Database) (d : Effect) : Type 0 where
+-- nothing was done, and no transaction is open, as before
+pub record Idles (db : Database) (tr : Transaction) (d : Effect) : Type 0 where
   pub same : d.db ≡ db
   pub over : d.statement ≡ None
+  pub was : (u : OpenTransaction) → tr ≡ Open u → ⊥
   pub shut : (u : OpenTransaction) → d.transaction ≡ Open u → ⊥
 
 does_stmt_by_kind : (P Q : Database → Type 0) (V : View → Type 0) (db : Database) (tr : Transaction) (statement : Option Progress) (around : Surroundings) (stmt : StmtTree)
     → Keeps (doer db tr) (command_in tr) P Q → Allows V db tr statement → P (start db tr)
-    → Idles db (run_piecewise db tr statement around stmt) ⊎ Ran (doer db tr) (command_in tr) P Q V around.sessions (run_piecewise db tr statement around stmt)
+    → Idles db tr (run_piecewise db tr statement around stmt) ⊎ Ran (doer db tr) (command_in tr) P Q V around.sessions (run_piecewise db tr statement around stmt)
 does_stmt_by_kind P Q V db Aborted statement around stmt keeps view p = inl (by (is_end stmt)) where
-  by : (b : Bool) → (let d : Effect = if b then turns db Closed else record { db = db; transaction = Aborted; statement = None; outcome = Failed AbortedFault } in Idles db d)
-  by true = record { same = refl; over = refl; shut = λ u h. cc }
-  by false = record { same = refl; over = refl; shut = λ u h. cc }
+  by : (b : Bool) → (let d : Effect = if b then turns db Closed else record { db = db; transaction = Aborted; statement = None; outcome = Failed AbortedFault } in Idles db Aborted d)
+  by true = record { same = refl; over = refl; was = λ u h. cc; shut = λ u h. cc }
+  by false = record { same = refl; over = refl; was = λ u h. cc; shut = λ u h. cc }
 does_stmt_by_kind P Q V db (Open t) None around stmt keeps view p = inr (ran_begins P Q V db t around stmt keeps view p)
 does_stmt_by_kind P Q V db (Open t) (Some g) around stmt keeps view p = inr (ran_on P Q V db t around g stmt keeps view.0 view.1 p)
 does_stmt_by_kind P Q V db Closed statement around stmt keeps view p = by stmt where
   first : OpenTransaction
   first = fresh db.content ReadCommitted false
 
-  idles : Idles db (turns db Closed)
-  idles = record { same = refl; over = refl; shut = λ u h. cc }
+  idles : Idles db Closed (turns db Closed)
+  idles = record { same = refl; over = refl; was = λ u h. cc; shut = λ u h. cc }
 
-  run : (s : StmtTree) → Idles db (run_first db around s) ⊎ Ran first.tx first.command P Q V around.sessions (run_first db around s)
+  run : (s : StmtTree) → Idles db Closed (run_first db around s) ⊎ Ran first.tx first.command P Q V around.sessions (run_first db around s)
   run s = inr (ran_begins P Q V (begun db) first around s keeps view p)
 
-  by : (s : StmtTree) → Idles db (run_closed db around s) ⊎ Ran first.tx first.command P Q V around.sessions (run_closed db around s)
+  by : (s : StmtTree) → Idles db Closed (run_closed db around s) ⊎ Ran first.tx first.command P Q V around.sessions (run_closed db around s)
   by (Begin level) = inr (ran_open P Q V around.sessions (begun db) first (fresh db.content (unwrap_or level ReadCommitted) true) _ refl keeps p)
   by Commit = inl idles
   by Rollback = inl idles
@@ -645,5 +665,5 @@ does_stmt_by_kind P Q V db Closed statement around stmt keeps view p = by stmt w
 -- a statement did nothing, or what its transaction may do
 pub does_stmt : (P Q : Database → Type 0) (V : View → Type 0) (db : Database) (tr : Transaction) (statement : Option Progress) (around : Surroundings) (stmt : StmtTree)
     → Keeps (doer db tr) (command_in tr) P Q → Allows V db tr statement → P (start db tr)
-    → Idles db (run_stmt db tr statement around stmt) ⊎ Ran (doer db tr) (command_in tr) P Q V around.sessions (run_stmt db tr statement around stmt)
-does_stmt P Q V db tr statement around stmt keeps view p = subst (λ (d : Effect). Idles db d ⊎ Ran (doer db tr) (command_in tr) P Q V around.sessions d) (sym (runs_by_kind db tr statement around stmt)) (does_stmt_by_kind P Q V db tr statement around stmt keeps view p)
+    → Idles db tr (run_stmt db tr statement around stmt) ⊎ Ran (doer db tr) (command_in tr) P Q V around.sessions (run_stmt db tr statement around stmt)
+does_stmt P Q V db tr statement around stmt keeps view p = subst (λ (d : Effect). Idles db tr d ⊎ Ran (doer db tr) (command_in tr) P Q V around.sessions d) (sym (runs_by_kind db tr statement around stmt)) (does_stmt_by_kind P Q V db tr statement around stmt keeps view p)

@@ -2,6 +2,7 @@
 use Rattle.std.proofs.Common.{◌≡◌, refl, sym, ◌∙◌, ap, subst, ◌⊎◌, inl, inr, Bool, true, false, ℕ, ◌+◌, List, [], ◌∷◌, length}
 use Rattle.std.specs.Prelude.{Option, Some, None, is_some, nat_lt, slice_get, Result, Ok, Err, if◌then◌else◌}
 use Rattle.sql_trees.specs.Statements.{StmtTree}
+use Rattle.row_versions.specs.Log.{IsOpen}
 use Rattle.row_versions.specs.declared.write.View.{View}
 use Rattle.session_machine.specs.declared.session.OpenTransaction.{OpenTransaction}
 use Rattle.session_machine.specs.declared.session.Place.{Place}
@@ -24,7 +25,7 @@ use Rattle.session_machine.specs.Machine.{Machine, Blocks, Next, next, stmts_of,
 use Rattle.session_machine.specs.Waits.{is_still_blocked}
 use Rattle.session_machine.specs.Inner.Steps.{launch_of, step_stmt, step_from_place, step_of, leave_of, finished, waits_there, after_block_end, around, left_behind, first_place}
 use Rattle.session_machine.specs.Sound.{command_in}
-use Rattle.wait_laws.proofs.Doing.{Keeps, Refused, Ran, Idles, doer, start, Allows, does_stmt}
+use Rattle.wait_laws.proofs.Doing.{Keeps, Refused, Ran, Idles, doer, start, Allows, does_stmt, ended_committed, ended_rolled_back}
 
 err_not : (f : Refusal) (n : Next) → (let y : Result Next Refusal = Err f in y ≡ Ok n) → ⊥
 err_not f n h = cc
@@ -83,6 +84,7 @@ pub record Rests (m : Machine) (s : Session) (e : Database) (u : Session) : Type
   pub same : e ≡ m.db
   pub over : u.statement ≡ None
   pub its : (t : OpenTransaction) → u.transaction ≡ Open t → s.transaction ≡ Open t
+  pub stays : (t : OpenTransaction) → s.transaction ≡ Open t → u.transaction ≡ Open t
 
 -- the session and what is shared afterwards
 pub record Moved (P Q : Database → Type 0) (V : View → Type 0) (m : Machine) (i : ℕ) (s : Session) (after : Machine) : Type 0 where
@@ -101,7 +103,7 @@ moved_launch P Q V blocks mode m i block s n h =
       e = m.db;
       u = record { place = first_place block (stmts_of blocks block); transaction = s.transaction; statement = None };
       is = ap (λ (x : Next). x.machine) (ok_is _ n c.1);
-      did = inl (record { same = refl; over = refl; its = λ t k. k });
+      did = inl (record { same = refl; over = refl; its = λ t k. k; stays = λ t k. k });
     }
 
 open_is : (t u : OpenTransaction) → Open t ≡ Open u → t ≡ u
@@ -115,19 +117,22 @@ moved_leave P Q V mode m i s n keeps p h =
       e = left_behind m.db s.transaction;
       u = at_rest;
       is = ap (λ (x : Next). x.machine) (ok_is _ n c.1);
-      did = by s.transaction keeps p;
+      did = by s.transaction refl keeps p;
     } where
       no_tx : (t : OpenTransaction) → Closed ≡ Open t → ⊥
       no_tx t k = cc
 
+      aborted_not : (t : OpenTransaction) → Aborted ≡ Open t → ⊥
+      aborted_not t k = cc
+
       no_wait : (q : Progress) → None ≡ Some q → ⊥
       no_wait q k = cc
 
-      by : (tr : Transaction) → Keeps (doer m.db tr) (command_in tr) P Q → P (start m.db tr)
+      by : (tr : Transaction) → s.transaction ≡ tr → Keeps (doer m.db tr) (command_in tr) P Q → P (start m.db tr)
           → Rests m s (left_behind m.db tr) at_rest ⊎ Ran (doer m.db tr) (command_in tr) P Q V (around m i s).sessions (left_as (left_behind m.db tr) at_rest)
-      by Closed k q = inl (record { same = refl; over = refl; its = λ t f. absurd (no_tx t f) })
-      by Aborted k q = inl (record { same = refl; over = refl; its = λ t f. absurd (no_tx t f) })
-      by (Open t) k q = inr (record { db = k.roll_back m.db q; own = λ u f. absurd (no_tx u f); waits = λ g f. absurd (no_wait g f) })
+      by Closed is k q = inl (record { same = refl; over = refl; its = λ t f. absurd (no_tx t f); stays = λ t f. absurd (no_tx t (sym is ∙ f)) })
+      by Aborted is k q = inl (record { same = refl; over = refl; its = λ t f. absurd (no_tx t f); stays = λ t f. absurd (aborted_not t (sym is ∙ f)) })
+      by (Open t) is k q = inr (record { db = k.roll_back m.db q; own = λ u f. absurd (no_tx u f); over = λ shut. ended_rolled_back m.db t.tx; waits = λ g f. absurd (no_wait g f) })
 
 no_statement : (p : Progress) → None ≡ Some p → ⊥
 no_statement p h = cc
@@ -174,15 +179,16 @@ not_closed : (t : OpenTransaction) → Closed ≡ Open t → ⊥
 not_closed t h = cc
 
 moved_after : (P Q : Database → Type 0) (V : View → Type 0) (m : Machine) (i : ℕ) (s : Session) (place : Place) (d : Effect) (n : Next)
-    → Keeps (doer m.db s.transaction) (command_in s.transaction) P Q → Idles m.db d ⊎ Ran (doer m.db s.transaction) (command_in s.transaction) P Q V (around m i s).sessions d → After m i place d n → Moved P Q V m i s n.machine
+    → Keeps (doer m.db s.transaction) (command_in s.transaction) P Q → Idles m.db s.transaction d ⊎ Ran (doer m.db s.transaction) (command_in s.transaction) P Q V (around m i s).sessions d → After m i place d n → Moved P Q V m i s n.machine
 moved_after P Q V m i s place d n keeps did a = record { e = a.e; u = a.u; is = a.is; did = by did a.how } where
-  idle : Idles m.db d
+  idle : Idles m.db s.transaction d
       → ((a.e ≡ d.db) × (a.u.transaction ≡ d.transaction) × ((a.u.statement ≡ d.statement) ⊎ (a.u.statement ≡ None)))
       ⊎ ((t : OpenTransaction) × (d.transaction ≡ Open t) × (a.e ≡ committed d.db t.tx) × (a.u.transaction ≡ Closed) × (a.u.statement ≡ None)) → Rests m s a.e a.u
   idle h (inl k) = record {
     same = k.0 ∙ h.same;
     over = elim k.2 [ inl f ↦ f ∙ h.over | inr f ↦ f ];
     its = λ t f. absurd (h.shut t (sym k.1 ∙ f));
+    stays = λ t f. absurd (h.was t f);
   }
   idle h (inr k) = absurd (h.shut k.0 k.1)
 
@@ -193,6 +199,7 @@ moved_after P Q V m i s place d n keeps did a = record { e = a.e; u = a.u; is = 
   ran r (inl k) = record {
     db = subst Q (sym k.0) r.db;
     own = λ t f. let o = r.own t (sym k.1 ∙ f) in (o.0, subst P (sym k.0) o.1);
+    over = λ shut o. r.over (λ u f. shut u (k.1 ∙ f)) (subst (λ (y : Database). IsOpen y.content (doer m.db s.transaction)) k.0 o);
     waits = λ p f. elim k.2 [
       | inl g ↦
           let w = r.waits p (sym g ∙ f) in
@@ -205,10 +212,12 @@ moved_after P Q V m i s place d n keeps did a = record { e = a.e; u = a.u; is = 
       record {
         db = subst Q (ap (committed d.db) (sym o.0) ∙ sym k.2) (keeps.commit d.db o.1);
         own = λ t f. absurd (not_closed t (sym k.3 ∙ f));
+        over = λ shut q. ended_committed d.db (doer m.db s.transaction)
+            (subst (λ (y : Database). IsOpen y.content (doer m.db s.transaction)) (k.2 ∙ ap (committed d.db) o.0) q);
         waits = λ p f. absurd (no_statement p (sym k.4 ∙ f));
       }
 
-  by : Idles m.db d ⊎ Ran (doer m.db s.transaction) (command_in s.transaction) P Q V (around m i s).sessions d
+  by : Idles m.db s.transaction d ⊎ Ran (doer m.db s.transaction) (command_in s.transaction) P Q V (around m i s).sessions d
       → ((a.e ≡ d.db) × (a.u.transaction ≡ d.transaction) × ((a.u.statement ≡ d.statement) ⊎ (a.u.statement ≡ None)))
       ⊎ ((t : OpenTransaction) × (d.transaction ≡ Open t) × (a.e ≡ committed d.db t.tx) × (a.u.transaction ≡ Closed) × (a.u.statement ≡ None))
       → Rests m s a.e a.u ⊎ Ran (doer m.db s.transaction) (command_in s.transaction) P Q V (around m i s).sessions (left_as a.e a.u)

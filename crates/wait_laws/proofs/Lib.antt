@@ -8,6 +8,7 @@ pub mod Edges
 pub mod Exclusion
 pub mod Cycles
 pub mod Mending
+pub mod Ending
 pub mod Alone
 pub mod Counting
 pub mod Rest

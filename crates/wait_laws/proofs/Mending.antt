@@ -159,7 +159,7 @@ mended_next given mode m event s n old at h = subst (λ (y : Machine). Mended x 
   by (inl r) = subst (Mended x m.db) (sym r.same) (record { stay = λ r tx u there o. there; come = λ r tx u there. inl there })
   by (inr r) = mended x m.db k.e r.db
 
-doer_at : (db : Database) (tr : Transaction) → doer db tr ≡ (transaction_at db.content tr).tx
+pub doer_at : (db : Database) (tr : Transaction) → doer db tr ≡ (transaction_at db.content tr).tx
 doer_at db Closed = refl
 doer_at db Aborted = refl
 doer_at db (Open t) = refl

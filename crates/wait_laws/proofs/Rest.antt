@@ -171,7 +171,7 @@ nearer given mode m i n old h =
     (does_stmt (BlockedBy (doer m.db s.transaction) m.db) (λ d. Unit {0}) (λ v. Unit {0}) m.db s.transaction s.statement (around m i s) k.stmt
     (still_keeps (doer m.db s.transaction) (command_in s.transaction) m.db) (allows_all m.db s.transaction s.statement) (still_start m.db s.transaction old.rows.known (λ q f. old.opened i q (ap tx_of there.1 ∙ f))))) where
       by : (s : Session) → slice_get m.sessions i ≡ Some s → (k : Stepped given m i s n) → (d : Effect)
-          → Idles m.db d ⊎ Ran (doer m.db s.transaction) (command_in s.transaction) (BlockedBy (doer m.db s.transaction) m.db) (λ d. Unit {0}) (λ v. Unit {0}) (around m i s).sessions d
+          → Idles m.db s.transaction d ⊎ Ran (doer m.db s.transaction) (command_in s.transaction) (BlockedBy (doer m.db s.transaction) m.db) (λ d. Unit {0}) (λ v. Unit {0}) (around m i s).sessions d
           → IsNearerRest given m (after_stmt m i k.place (length (stmts_of given k.place.block)) d).machine
       by s at k d did = on d.statement refl where
         count : ℕ

@@ -162,6 +162,22 @@ pub record BlockersStayToTheirEnd : Type 0 where
       → (request : Request) (tx u : TxId) → IsTrue (has (blockers n.machine.db request tx) u)
       → IsTrue (has (blockers m.db request tx) u) ⊎ (u ≡ (transaction_at m.db.content s.transaction).tx)
 
+-- who does an event: the transaction of the session that it is of, or the one that would begin with it
+abbrev pub doer_of : Machine → Session → TxId
+doer_of m s = (transaction_at m.db.content s.transaction).tx
+
+-- an event ends no transaction but the one that does it: all others that are open stay open. And that one is open afterwards exactly where it is the transaction that the
+-- session is in then
+pub record TransactionsEndThemselves : Type 0 where
+  pub others : (given : Blocks) (mode : Mode) (count : ℕ) (m : Machine) → Reaches given mode count m → (event : Event) (n : Next) → next given mode m event ≡ Ok n
+      → (s : Session) → slice_get m.sessions (session_of event) ≡ Some s → (u : TxId) → u ≢ doer_of m s → IsOpen m.db.content u → IsOpen n.machine.db.content u
+  pub stays : (given : Blocks) (mode : Mode) (count : ℕ) (m : Machine) → Reaches given mode count m → (event : Event) (n : Next) → next given mode m event ≡ Ok n
+      → (s after : Session) → slice_get m.sessions (session_of event) ≡ Some s → slice_get n.machine.sessions (session_of event) ≡ Some after
+      → IsOpen n.machine.db.content (doer_of m s) ↔ ((t : OpenTransaction) × (after.transaction ≡ Open t) × (t.tx ≡ doer_of m s))
+  pub one : (given : Blocks) (mode : Mode) (count : ℕ) (m : Machine) → Reaches given mode count m → (event : Event) (n : Next) → next given mode m event ≡ Ok n
+      → (s after : Session) → slice_get m.sessions (session_of event) ≡ Some s → slice_get n.machine.sessions (session_of event) ≡ Some after
+      → (t : OpenTransaction) → after.transaction ≡ Open t → t.tx ≡ doer_of m s
+
 -- where a statement goes on, its targets are the same: those that pass WHERE, and those that a locking SELECT takes
 pub record SameTargets (before after : Database) (p : Progress) (t : OpenTransaction) (around : Surroundings) : Type 0 where
   pub passing : (filter : Option Tree) → passing_targets after (going_on t around p) filter ≡ passing_targets before (going_on t around p) filter

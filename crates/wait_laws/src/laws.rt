@@ -1,5 +1,5 @@
 //! Laws of waits: each function's contract is one of them, and its body does nothing.
-ghost use Rattle.wait_laws.specs.Laws.{BlockersStayToTheirEnd, NoCycleOfWaits, DeadlockIsExact, KeyIsExact, WritesAreHeld, WaitsGoOnAsBegun, StatementsGoOnInTheirView, StatementsStayAsBegun, RestIsReached};
+ghost use Rattle.wait_laws.specs.Laws.{BlockersStayToTheirEnd, TransactionsEndThemselves, NoCycleOfWaits, DeadlockIsExact, KeyIsExact, WritesAreHeld, WaitsGoOnAsBegun, StatementsGoOnInTheirView, StatementsStayAsBegun, RestIsReached};
 ghost use Rattle.wait_laws.specs.Replies.{DeadlockIsAnswered};
 
 /// In no state do transactions wait in a cycle, and from each its blockers lead to one that waits for nobody.
@@ -32,6 +32,11 @@ pub fn writes_are_held()
 /// Who stands in the way of a request is open, and stays there until its transaction ends; an event brings nobody there but the transaction that does it.
 pub fn blockers_stay_to_their_end()
     ensures { BlockersStayToTheirEnd }
+{}
+
+/// An event ends no transaction but the one that does it, and that is open afterwards exactly where its session is in it.
+pub fn transactions_end_themselves()
+    ensures { TransactionsEndThemselves }
 {}
 
 /// A session that waits is left as it is by what is done to others, and its statement finds the same rows when it goes on.

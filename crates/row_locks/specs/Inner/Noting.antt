@@ -1,8 +1,8 @@
 -- Slots that are noted by a number of their values: of locks by their row and their transaction, of waits by their transaction.
-use Rattle.std.specs.Prelude.{◌≡◌, ◌==◌, ℕ, Bool, List, filter, Option, Some, None, if◌then◌else◌, not, ◌&&◌}
+use Rattle.std.specs.Prelude.{◌≡◌, ◌==◌, ℕ, Bool, false, List, filter, Option, Some, None, if◌then◌else◌, not, ◌&&◌}
 use Rattle.row_versions.specs.declared.names.TxId.{TxId}
 use Rattle.row_versions.specs.declared.names.RowId.{RowId}
-use Rattle.row_versions.specs.Members.{has}
+use Rattle.row_versions.specs.Members.{has, same_tx}
 use Rattle.sql_trees.specs.declared.stmt.Strength.{Strength}
 use Rattle.places.specs.declared.places.Places.{Places}
 use Rattle.places.specs.Noted.{noted}
@@ -27,3 +27,8 @@ pub record AreLocksNoted (by_row by_tx : Places) (locks : List (ℕ × Held)) : 
 abbrev pub blocker_in : RowId → TxId → Strength → List TxId → Option Held → Option TxId
 blocker_in row tx strength found None = None
 blocker_in row tx strength found (Some h) = if is_against row tx strength h && not (has found h.tx) then Some h.tx else None
+
+-- the lock in a slot is that holder's, and stands against the request
+abbrev pub is_holder_in : RowId → TxId → Strength → TxId → Option Held → Bool
+is_holder_in row tx strength holder None = false
+is_holder_in row tx strength holder (Some h) = is_against row tx strength h && same_tx h.tx holder
