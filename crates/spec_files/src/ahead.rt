@@ -20,9 +20,6 @@ use std::collections::VecDeque;
 use std::sync::Wait;
 use std::thread::{Threads, available_parallelism};
 
-/// How many permutations run ahead of their turn, at most.
-const MOST_AHEAD: u64 = 64;
-
 /// How many crews run at a time, at most, and how many threads they have together, where it is more than one: so many stacks
 /// of ended threads stay with the process.
 const MOST_AT_A_TIME: usize = 4;
@@ -66,6 +63,18 @@ fn crews_for<R: Threads>(
         None if permutations <= LEAST_TOGETHER => 1,
         None => at_a_time(sessions, processors(rt)),
     }
+}
+
+/// How many permutations run ahead of their turn, at most: as many as one crew serves, or as all of them do once it is known how
+/// many there are.
+fn most_ahead(crews: Option<usize>) -> u64
+    ensures { (0 < result) × (result ≤ 256) }
+{
+    let crews = match crews {
+        Some(crews) => crews.clamp(1, MOST_AT_A_TIME),
+        None => 1,
+    };
+    crews as u64 * MOST_TOGETHER as u64
 }
 
 /// How many of so many permutations one crew serves: they are dealt out evenly, few of them to fewer crews.
@@ -196,7 +205,7 @@ impl<'s> Ahead<'s> {
             return Ok(());
         }
         let sessions = file.spec.sessions.len();
-        let most = self.left.min(MOST_AHEAD);
+        let most = self.left.min(most_ahead(self.crews));
         let taken = take_next(alloc, &mut self.behind, most)?;
         let crews = crews_for(rt, self.crews, taken.len(), sessions);
         self.crews = Some(crews);
