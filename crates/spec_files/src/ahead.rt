@@ -26,9 +26,11 @@ const MOST_AT_A_TIME: usize = 4;
 
 const MOST_THREADS: usize = 40;
 
-/// How many permutations one crew serves, at most, and at least where so many are left: each thread that is started takes time,
-/// and what wakes one serves many.
+/// How many permutations one crew serves, at most, by one or two crews, and at least where so many are left: each thread that is
+/// started takes time, and what wakes one serves many.
 const MOST_TOGETHER: usize = 64;
+
+const FEW_TOGETHER: usize = 32;
 
 const LEAST_TOGETHER: usize = 8;
 
@@ -65,16 +67,20 @@ fn crews_for<R: Threads>(
     }
 }
 
-/// How many permutations run ahead of their turn, at most: as many as one crew serves, or as all of them do once it is known how
-/// many there are.
+/// How many permutations run ahead of their turn, at most, by so many crews, or before it is known by how many. The more threads
+/// there are, the longer one waits for a processor, and the more what wakes it is to serve.
 fn most_ahead(crews: Option<usize>) -> u64
     ensures { (0 < result) × (result ≤ 256) }
 {
-    let crews = match crews {
-        Some(crews) => crews.clamp(1, MOST_AT_A_TIME),
-        None => 1,
+    let Some(crews) = crews else {
+        return MOST_TOGETHER as u64;
     };
-    crews as u64 * MOST_TOGETHER as u64
+    let each = if crews > 2 {
+        MOST_TOGETHER
+    } else {
+        FEW_TOGETHER
+    };
+    crews.clamp(1, MOST_AT_A_TIME) as u64 * each as u64
 }
 
 /// How many of so many permutations one crew serves: they are dealt out evenly, few of them to fewer crews.
