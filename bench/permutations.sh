@@ -1,6 +1,8 @@
 #!/usr/bin/env bash
 # Times the built program on all 1,680 interleavings of three sessions of three steps, on all 924 of two sessions of six, and on one permutation of
 # 1,000 entries; a table is made, filled and dropped in each permutation. Prints permutations a second, of the best of five runs.
+# The first two it also times on two processors alone, and beside eight busy loops, with threads and on one thread: of these the median of nine runs each,
+# one after the other in turn, since what else the machine does weighs more there.
 # Where PostgreSQL 15 and its isolationtester are on the machine (Debian's package postgresql-15), a private cluster is started in a temporary folder
 # (unix socket only, fsync off), the real tool runs the same files, five times too, its text is compared with ours, and the ratio of the best runs is printed.
 # Build the program first: ./build
@@ -10,7 +12,9 @@ program="$here/crates/isolationtester/out/isolationtester"
 . "$here/bench/cluster.sh"
 . "$here/bench/beside.sh"
 room=$(mktemp -d)
+loops=()
 finish() {
+  [ ${#loops[@]} = 0 ] || kill "${loops[@]}" 2> /dev/null || true
   stop_cluster
   rm -rf "$room"
 }
@@ -65,3 +69,36 @@ start_beside
 compare three 1680 "three sessions of three steps, 1,680 in all"
 compare two 924 "two sessions of six steps, 924 in all"
 compare long 1 "one permutation of 1,000 entries"
+
+# the middle one of these numbers
+median() {
+  printf '%s\n' "$@" | sort -n | sed -n "$((($# + 1) / 2))p"
+}
+
+# in_turn SPEC WORDS [PREFIX..]: times the spec with threads and on one thread, behind these words of a command line
+in_turn() {
+  local spec=$1 words=$2 with=() alone=() a b
+  shift 2
+  [ -x "$timings" ] || return 0
+  for _ in 1 2 3 4 5 6 7 8 9; do
+    with+=("$(micros "$@" "$program" < "$room/$spec")")
+    alone+=("$(micros "$@" "$timings" alone < "$room/$spec")")
+  done
+  a=$(median "${with[@]}")
+  b=$(median "${alone[@]}")
+  printf '%-46s %4d.%d ms with threads, %4d.%d on one thread: %d in 100 of its time\n' "$words" $((a / 1000)) $((a % 1000 / 100)) $((b / 1000)) $((b % 1000 / 100)) $((a * 100 / b))
+}
+
+for spec in three two; do
+  in_turn "$spec" "$spec, all processors"
+  in_turn "$spec" "$spec, on two processors" taskset -c 0,1
+done
+for _ in 1 2 3 4 5 6 7 8; do
+  while :; do :; done &
+  loops+=($!)
+done
+for spec in three two; do
+  in_turn "$spec" "$spec, beside eight busy loops"
+done
+kill "${loops[@]}"
+loops=()

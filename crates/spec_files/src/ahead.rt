@@ -20,18 +20,17 @@ use std::collections::VecDeque;
 use std::sync::Wait;
 use std::thread::{Threads, available_parallelism};
 
-/// How many permutations run ahead of their turn, at most.
-const MOST_AHEAD: u64 = 64;
-
 /// How many crews run at a time, at most, and how many threads they have together, where it is more than one: so many stacks
 /// of ended threads stay with the process.
 const MOST_AT_A_TIME: usize = 4;
 
 const MOST_THREADS: usize = 40;
 
-/// How many permutations one crew serves, at most, and at least where so many are left: each thread that is started takes time,
-/// and what wakes one serves many.
+/// How many permutations one crew serves, at most, by one or two crews, and at least where so many are left: each thread that is
+/// started takes time, and what wakes one serves many.
 const MOST_TOGETHER: usize = 64;
+
+const FEW_TOGETHER: usize = 32;
 
 const LEAST_TOGETHER: usize = 8;
 
@@ -66,6 +65,22 @@ fn crews_for<R: Threads>(
         None if permutations <= LEAST_TOGETHER => 1,
         None => at_a_time(sessions, processors(rt)),
     }
+}
+
+/// How many permutations run ahead of their turn, at most, by so many crews, or before it is known by how many. The more threads
+/// there are, the longer one waits for a processor, and the more what wakes it is to serve.
+fn most_ahead(crews: Option<usize>) -> u64
+    ensures { (0 < result) × (result ≤ 256) }
+{
+    let Some(crews) = crews else {
+        return MOST_TOGETHER as u64;
+    };
+    let each = if crews > 2 {
+        MOST_TOGETHER
+    } else {
+        FEW_TOGETHER
+    };
+    crews.clamp(1, MOST_AT_A_TIME) as u64 * each as u64
 }
 
 /// How many of so many permutations one crew serves: they are dealt out evenly, few of them to fewer crews.
@@ -196,7 +211,7 @@ impl<'s> Ahead<'s> {
             return Ok(());
         }
         let sessions = file.spec.sessions.len();
-        let most = self.left.min(MOST_AHEAD);
+        let most = self.left.min(most_ahead(self.crews));
         let taken = take_next(alloc, &mut self.behind, most)?;
         let crews = crews_for(rt, self.crews, taken.len(), sessions);
         self.crews = Some(crews);
