@@ -11,11 +11,11 @@ use std::process::Abort;
 /// What a file has many of, how many, and how a case is called. Each step is a transaction: those of five sessions have 120 serial orders.
 const FILES: [(Many, &'static [u32], &'static str); 6] = [
     (Many::Sessions, &[1, 2, 3, 4, 5], "sessions"),
-    (Many::Steps, &[1, 5, 9, 41, 101], "steps"),
-    (Many::Permutations, &[1, 5, 9, 41, 101], "permutations"),
-    (Many::Setups, &[0, 1, 5, 9, 41, 101], "setups"),
-    (Many::Statements, &[0, 1, 5, 9, 41, 101, 256], "statements"),
-    (Many::Rows, &[0, 1, 5, 9, 41, 101, 1_001], "rows"),
+    (Many::Steps, &[1, 5, 9, 41], "steps"),
+    (Many::Permutations, &[1, 5, 9, 41], "permutations"),
+    (Many::Setups, &[0, 1, 5, 9, 41], "setups"),
+    (Many::Statements, &[0, 1, 5, 9, 41, 101], "statements"),
+    (Many::Rows, &[0, 1, 5, 9, 41, 101], "rows"),
 ];
 
 /// How the text begins: all permutations run, and answer alike.
