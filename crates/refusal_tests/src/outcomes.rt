@@ -40,8 +40,10 @@ fn is_told(alloc: Global, many: Many, count: u32, is_html: bool) -> Result<bool,
 /// A want stands in the way once.
 fn is_told_at_last(alloc: Global, many: Many, count: u32, is_html: bool) -> bool {
     match is_told(alloc, many, count, is_html) {
-        Err(fault) if is_want(&fault) => matches!(is_told(alloc, many, count, is_html), Ok(true)),
-        first => matches!(first, Ok(true)),
+        Ok(is_so) => is_so,
+        Err(fault) => {
+            is_want(&fault) && matches!(is_told(alloc, many, count, is_html), Ok(true))
+        }
     }
 }
 

@@ -80,15 +80,25 @@ const FILES: [(Many, &'static [u32], &'static str); 6] = [
 ];
 
 /// A want stands in the way of a call once.
+fn ends_at_last<R: Threads + Wait + Sync>(
+    rt: &R,
+    alloc: Global,
+    call: Call,
+    many: Many,
+    count: u32,
+) -> bool {
+    match comes_to_its_end(rt, alloc, call, many, count) {
+        Ok(is_so) => is_so,
+        Err(fault) => {
+            is_want(&fault) && matches!(comes_to_its_end(rt, alloc, call, many, count), Ok(true))
+        }
+    }
+}
+
 fn ends_at_each_size<R: Threads + Wait + Sync + Abort>(rt: &R, alloc: Global, call: Call) {
     for (many, counts, name) in FILES {
         for count in counts {
-            let first = comes_to_its_end(rt, alloc, call, many, *count);
-            let last = match first {
-                Err(fault) if is_want(&fault) => comes_to_its_end(rt, alloc, call, many, *count),
-                first => first,
-            };
-            holds(rt, matches!(last, Ok(true)), name);
+            holds(rt, ends_at_last(rt, alloc, call, many, *count), name);
         }
     }
 }
