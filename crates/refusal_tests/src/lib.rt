@@ -11,6 +11,12 @@ mod devices;
 #[cfg(test)]
 mod files;
 #[cfg(test)]
+mod listing;
+#[cfg(test)]
+mod outcomes;
+#[cfg(test)]
 mod rows;
 #[cfg(test)]
 mod seats;
+#[cfg(test)]
+mod sizes;
