@@ -3,4 +3,3 @@ pub mod Seeing
 pub mod Filtered
 pub mod Shown
 pub mod Last
-pub mod OpenTxs

@@ -12,5 +12,4 @@ mod Slots
 mod SameCode
 mod Places
 mod Leading
-mod Standing
-mod Taking
+mod Searched
