@@ -43,6 +43,11 @@ pub struct Outcomes<'t> {
     pub judged: Vec<Judged<'t>>,
 }
 
+impl<'t> Outcomes<'t> {
+    /// Lets go of them. A caller that drops them proves anew how each of their parts is dropped.
+    pub fn end(self) {}
+}
+
 /// Why a permutation was not set up.
 fn setup_fault(
     alloc: Global,
