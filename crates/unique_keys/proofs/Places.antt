@@ -14,13 +14,14 @@ use Rattle.row_versions.specs.Members.{same_tx}
 use Rattle.unique_keys.specs.declared.noted.Noted.{Noted}
 use Rattle.unique_keys.specs.declared.notes.Notes.{Notes}
 use Rattle.unique_keys.specs.declared.known.KnownKey.{KnownKey}
-use Rattle.unique_keys.specs.Inner.Codes.{note_code}
+use Rattle.unique_keys.specs.declared.code_lists.CodeLists.{CodeLists}
+use Rattle.unique_keys.specs.Inner.Codes.{mix, note_code}
 use Rattle.unique_keys.specs.Inner.Finding.{last_of}
 use Rattle.unique_keys.specs.Inner.Slots.{at, is_elsewhere, kept, passes, Listed, Rises}
-use Rattle.unique_keys.specs.Inner.Listing.{GrownList, Grown, ShrunkList, Shrunk, is_coded}
-use Rattle.unique_keys.specs.Inner.WellKept.{IsListed, WellKept}
-use Rattle.unique_keys.proofs.Quick.{both, alike}
-use Rattle.unique_keys.proofs.Slots.{fails, true_or_false, passes_some, some_passes, exists_at, any_at, none_at, any_listed, last_found, rises_on, rises_pushed, keeps_pushed, has_pushed, keeps_struck, rises_struck, at-set_other, at-set_same, kept-push, at-push}
+use Rattle.unique_keys.specs.Inner.Listing.{GrownList, Grown, ShrunkList, Shrunk, KeepsUses, KeepsOtherUses, is_coded, is_used}
+use Rattle.unique_keys.specs.Inner.WellKept.{AreAll, IsListed, WellKept}
+use Rattle.unique_keys.proofs.Quick.{both, and, alike}
+use Rattle.unique_keys.proofs.Slots.{fails, true_or_false, passes_some, some_passes, exists_at, any_at, none_at, any_listed, last_found, rises_on, rises_pushed, keeps_pushed, has_pushed, has_struck, keeps_struck, rises_struck, at-set_other, at-set_same, kept-push, at-push}
 
 -- a list that stays, one with a place more, and one with a place less
 pub grown_same : (place : ℕ) (old new : List ℕ) → new ≡ old → GrownList place old new
@@ -41,17 +42,19 @@ grown_more place a b c f g = record { keeps = λ p h. g.keeps p (f.keeps p h); r
 pub shrunk_same : (place : ℕ) (old new : List ℕ) → new ≡ old → ShrunkList place old new
 shrunk_same place old new e = record {
   keeps = λ p n h. ap (λ v. has_place v p) e ∙ h;
+  only = λ p h. sym (ap (λ v. has_place v p) e) ∙ h;
   rises = λ limit r. subst (λ v. Rises limit v) (sym e) r;
 }
 
 pub shrunk_struck : (place : ℕ) (old new : List ℕ) → new ≡ without_last place old → ShrunkList place old new
 shrunk_struck place old new e = record {
   keeps = λ p n h. ap (λ v. has_place v p) e ∙ keeps_struck place old p n h;
+  only = λ p h. has_struck place old p (sym (ap (λ v. has_place v p) e) ∙ h);
   rises = λ limit r. subst (λ v. Rises limit v) (sym e) (rises_struck place old limit r);
 }
 
 pub shrunk_more : (place : ℕ) (a b c : List ℕ) → ShrunkList place a b → ShrunkList place b c → ShrunkList place a c
-shrunk_more place a b c f g = record { keeps = λ p n h. g.keeps p n (f.keeps p n h); rises = λ limit r. g.rises limit (f.rises limit r) }
+shrunk_more place a b c f g = record { keeps = λ p n h. g.keeps p n (f.keeps p n h); only = λ p h. f.only p (g.only p h); rises = λ limit r. g.rises limit (f.rises limit r) }
 
 -- in a map, where one number's list is changed and the others stay
 at_number : (P : List ℕ → List ℕ → Type 0) (old new : Places) (number : ℕ) → P (noted old number) (noted new number)
@@ -80,11 +83,11 @@ or_mapped : (a b c : Bool) → (b ≡ true → c ≡ true) → (a || b) ≡ true
 or_mapped true b c h t = refl
 or_mapped false b c h t = h t
 
-coded_on : (w : Noted) (p : ℕ) (old new : Places) → ((code : ℕ) → has_place (noted old code) p ≡ true → has_place (noted new code) p ≡ true) → (key : KnownKey)
+coded_on : (w : Noted) (p : ℕ) (old new : CodeLists) → ((code : ℕ) → is_used old w.row.0 p code ≡ true → is_used new w.row.0 p code ≡ true) → (key : KnownKey)
     → is_coded w p old key ≡ true → is_coded w p new key ≡ true
 coded_on w p old new h key t =
-    or_mapped (not (w.table.0 == key.table.0)) (option_map_or (λ code. has_place (noted old code) p) (note_code key w) true) (option_map_or (λ code. has_place (noted new code) p) (note_code key w) true)
-    (mapped (λ code. has_place (noted old code) p) (λ code. has_place (noted new code) p) h (note_code key w)) t
+    or_mapped (not (w.table.0 == key.table.0)) (option_map_or (λ code. is_used old w.row.0 p code) (note_code key w) true) (option_map_or (λ code. is_used new w.row.0 p code) (note_code key w) true)
+    (mapped (λ code. is_used old w.row.0 p code) (λ code. is_used new w.row.0 p code) h (note_code key w)) t
 
 all_on : (f g : KnownKey → Bool) → ((key : KnownKey) → f key ≡ true → g key ≡ true) → (keys : List KnownKey) → list_all f keys ≡ true → list_all g keys ≡ true
 all_on f g h [] t = refl
@@ -93,14 +96,55 @@ all_on f g h (key ∷ keys) t = step (f key) refl t (all_on f g h keys) where
   step true e k others = ap (λ v. v && list_all g keys) (h key e) ∙ others k
   step false e k others = cc
 
-pub all_coded_on : (w : Noted) (p : ℕ) (old new : Places) → ((code : ℕ) → has_place (noted old code) p ≡ true → has_place (noted new code) p ≡ true) → (keys : List KnownKey)
+pub all_coded_on : (w : Noted) (p : ℕ) (old new : CodeLists) → ((code : ℕ) → is_used old w.row.0 p code ≡ true → is_used new w.row.0 p code ≡ true) → (keys : List KnownKey)
     → list_all (is_coded w p old) keys ≡ true → list_all (is_coded w p new) keys ≡ true
 all_coded_on w p old new h keys t = all_on (is_coded w p old) (is_coded w p new) (coded_on w p old new h) keys t
 
 -- one key more
-pub coded_more : (w : Noted) (p : ℕ) (by_code : Places) (keys : List KnownKey) (key : KnownKey) → list_all (is_coded w p by_code) keys ≡ true → is_coded w p by_code key ≡ true
-    → list_all (is_coded w p by_code) (keys ++ key ∷ []) ≡ true
-coded_more w p by_code keys key t u = list_all-append (is_coded w p by_code) keys (key ∷ []) ∙ ap (λ v. v && (is_coded w p by_code key && true)) t ∙ ap (λ v. v && true) u
+pub coded_more : (w : Noted) (p : ℕ) (lists : CodeLists) (keys : List KnownKey) (key : KnownKey) → list_all (is_coded w p lists) keys ≡ true → is_coded w p lists key ≡ true
+    → list_all (is_coded w p lists) (keys ++ key ∷ []) ≡ true
+coded_more w p lists keys key t u = list_all-append (is_coded w p lists) keys (key ∷ []) ∙ ap (λ v. v && (is_coded w p lists key && true)) t ∙ ap (λ v. v && true) u
+
+-- where the lists of both maps grow, what was listed still is
+pub uses_grow : (place row : ℕ) (old new : CodeLists) → Grown place old.notes new.notes → Grown row old.rows new.rows → KeepsUses old new
+uses_grow place row old new notes rows = λ r p code h.
+    let t = both (has_place (noted old.rows code) r) (has_place (noted old.notes (mix r code)) p) h in
+    and (has_place (noted new.rows code) r) (has_place (noted new.notes (mix r code)) p) ((rows code).keeps r t.0) ((notes (mix r code)).keeps p t.1)
+
+-- where a place is struck, and its row where no place is left, what else was listed still is
+pub uses_shrink : (place row code : ℕ) (old new : CodeLists) → Shrunk place old.notes new.notes → Shrunk row old.rows new.rows
+    → ((other : ℕ) → (other == code) ≡ false → noted new.rows other ≡ noted old.rows other) → noted new.notes (mix row code) ≡ [] → KeepsOtherUses place old new
+uses_shrink place row code old new notes rows others none = λ r p c n h.
+    let t = both (has_place (noted old.rows c) r) (has_place (noted old.notes (mix r c)) p) h in
+    let there = (notes (mix r c)).keeps p n t.1 in
+    and (has_place (noted new.rows c) r) (has_place (noted new.notes (mix r c)) p) (listed r p c t.0 there (c == code) refl (r == row) refl) there where
+      listed : (r p c : ℕ) → has_place (noted old.rows c) r ≡ true → has_place (noted new.notes (mix r c)) p ≡ true → (a : Bool) → (c == code) ≡ a → (b : Bool) → (r == row) ≡ b
+          → has_place (noted new.rows c) r ≡ true
+      listed r p c h there false e b f = ap (λ v. has_place v r) (others c e) ∙ h
+      listed r p c h there true e false f = (rows c).keeps r f h
+      listed r p c h there true e true f =
+          let same : mix r c ≡ mix row code = (λ i. mix (eqb-true r row f i) (eqb-true c code e i)) in
+          absurd (true_or_false (has_place (noted new.notes (mix r c)) p) there (ap (λ v. has_place v p) (ap (noted new.notes) same ∙ none)))
+
+-- where a place is struck and others of the row are left
+pub uses_stay : (place : ℕ) (old new : CodeLists) → Shrunk place old.notes new.notes → new.rows ≡ old.rows → KeepsOtherUses place old new
+uses_stay place old new notes rows = λ r p c n h.
+    let t = both (has_place (noted old.rows c) r) (has_place (noted old.notes (mix r c)) p) h in
+    and (has_place (noted new.rows c) r) (has_place (noted new.notes (mix r c)) p) (ap (λ v. has_place (noted v c) r) rows ∙ t.0) ((notes (mix r c)).keeps p n t.1)
+
+-- a row for which some place is listed is among all
+pub row_in_all : (by_row : Places) (all : List ℕ) (row : ℕ) → AreAll by_row all → (length (noted by_row row) == 0) ≡ false → has_place all row ≡ true
+row_in_all by_row all row rows some = by (noted by_row row) refl some where
+  by : (xs : List ℕ) → noted by_row row ≡ xs → (length xs == 0) ≡ false → has_place all row ≡ true
+  by [] e h = cc
+  by (x ∷ xs) e h = rows row x (ap (λ v. has_place v x) e ∙ ap (λ b. b || has_place xs x) (eq-eqb x x refl))
+
+-- where places are listed for a row that is among all, all rows are
+pub all_more : (by_row new : Places) (all : List ℕ) (row : ℕ) → AreAll by_row all → has_place all row ≡ true → ((other : ℕ) → (other == row) ≡ false → noted new other ≡ noted by_row other) → AreAll new all
+all_more by_row new all row rows own others = λ r p h. step r p h (r == row) refl where
+  step : (r p : ℕ) → has_place (noted new r) p ≡ true → (b : Bool) → (r == row) ≡ b → has_place all r ≡ true
+  step r p h true same = subst (λ n. has_place all n ≡ true) (sym (eqb-true r row same)) own
+  step r p h false other = rows r p (sym (ap (λ v. has_place v p) (others r other)) ∙ h)
 
 -- another note of the row is of another table
 abbrev pub is_apart : Noted → Noted → Bool
@@ -108,18 +152,17 @@ is_apart w v = is_elsewhere w.table w.row v
 
 -- the lists grow
 pub grown_keeps : (n m : Notes) (place : ℕ) → place ≡ length n.slots.items → WellKept n → m.slots.items ≡ n.slots.items → m.known.items ≡ n.known.items → (m.mixed ≡ false → n.mixed ≡ false)
-    → GrownList place n.all.items m.all.items → Grown place n.by_row m.by_row → Grown place n.by_tx m.by_tx → Grown place n.by_code m.by_code → WellKept m
-grown_keeps n m place last well slots known mixed all rows txs codes = record {
+    → AreAll m.by_row m.all.items → Grown place n.by_row m.by_row → Grown place n.by_tx m.by_tx → Grown place n.by_writer m.by_writer → KeepsUses n.by_code m.by_code → WellKept m
+grown_keeps n m place last well slots known mixed all rows txs writers codes = record {
   listed = λ p w e. let old = well.listed p w (sym (ap (λ s. at s p) slots) ∙ e) in record {
-    in_all = all.keeps p old.in_all;
     in_row = (rows w.row.0).keeps p old.in_row;
     in_tx = (txs w.tx.0).keeps p old.in_tx;
-    coded = ap (λ k. list_all (is_coded w p m.by_code) k) known ∙ all_coded_on w p n.by_code m.by_code (λ code. (codes code).keeps p) n.known.items old.coded;
+    in_writer = (writers (mix w.row.0 w.tx.0)).keeps p old.in_writer;
+    coded = ap (λ k. list_all (is_coded w p m.by_code) k) known ∙ all_coded_on w p n.by_code m.by_code (codes w.row.0 p) n.known.items old.coded;
     apart = λ t. ap (λ s. list_any (is_apart w) (kept s)) slots ∙ old.apart (mixed t);
   };
-  all_rises = raised n.all.items m.all.items all well.all_rises;
   rows_rise = λ number. raised (noted n.by_row number) (noted m.by_row number) (rows number) (well.rows_rise number);
-  codes_rise = λ number. raised (noted n.by_code number) (noted m.by_code number) (codes number) (well.codes_rise number);
+  rows = all;
 } where
   raised : (old new : List ℕ) → GrownList place old new → Rises (length n.slots.items) old → Rises (length m.slots.items) new
   raised old new g r = subst (λ s. Rises (length s) new) (sym slots) (subst (λ k. Rises k new) last (g.rises (subst (λ k. Rises k old) (sym last) r)))
@@ -139,26 +182,28 @@ not_apart w = ap (λ b. (w.row.0 == w.row.0) && not b) (eq-eqb w.table.0 w.table
 apart_more : (w v : Noted) (ws : List Noted) → list_any (is_apart w) ws ≡ false → is_apart w v ≡ false → list_any (is_apart w) (ws ++ v ∷ []) ≡ false
 apart_more w v ws h k = list_any-append (is_apart w) ws (v ∷ []) ∙ ap (λ b. b || (is_apart w v || false)) h ∙ ap (λ b. b || false) k
 
+all_same : (n m : Notes) → m.by_row ≡ n.by_row → m.all ≡ n.all → AreAll n.by_row n.all.items → AreAll m.by_row m.all.items
+all_same n m rows all h = λ r p t. ap (λ a. has_place a.items r) all ∙ h r p (sym (ap (λ a. has_place (noted a r) p) rows) ∙ t)
+
 -- a note is put behind the others that is listed already
 pub pushed_keeps : (n m : Notes) (w : Noted) → WellKept n → IsListed n w (length n.slots.items) → m.slots.items ≡ n.slots.items ++ Some w ∷ [] → m.known ≡ n.known → m.mixed ≡ n.mixed
-    → m.all ≡ n.all → m.by_row ≡ n.by_row → m.by_tx ≡ n.by_tx → m.by_code ≡ n.by_code → WellKept m
-pushed_keeps n m w well new slots known mixed all rows txs codes = record {
+    → m.all ≡ n.all → m.by_row ≡ n.by_row → m.by_tx ≡ n.by_tx → m.by_writer ≡ n.by_writer → m.by_code ≡ n.by_code → WellKept m
+pushed_keeps n m w well new slots known mixed all rows txs writers codes = record {
   listed = λ p v e. elim (at-push n.slots.items w p v (sym (ap (λ s. at s p) slots) ∙ e)) [
     | inl old ↦ moved v p (well.listed p v old) (λ t. let own = passes_false v p old t in apart_comm v w ∙ own)
     | inr own ↦ subst (λ u. IsListed m u p) own.0 (subst (λ q. IsListed m w q) (sym own.1) (moved w (length n.slots.items) new (λ t. not_apart w)))
   ];
-  all_rises = ap_rises n.all.items m.all.items (ap (λ a. a.items) all) well.all_rises;
   rows_rise = λ number. ap_rises (noted n.by_row number) (noted m.by_row number) (ap (λ a. noted a number) rows) (well.rows_rise number);
-  codes_rise = λ number. ap_rises (noted n.by_code number) (noted m.by_code number) (ap (λ a. noted a number) codes) (well.codes_rise number);
+  rows = all_same n m rows all well.rows;
 } where
   passes_false : (v : Noted) (p : ℕ) → at n.slots.items p ≡ Some v → n.mixed ≡ false → is_apart w v ≡ false
   passes_false v p e t = sym (ap (passes (is_apart w)) e) ∙ none_at (is_apart w) n.slots.items (new.apart t) p
 
   moved : (v : Noted) (p : ℕ) → IsListed n v p → (n.mixed ≡ false → is_apart v w ≡ false) → IsListed m v p
   moved v p old h = record {
-    in_all = ap (λ a. has_place a.items p) all ∙ old.in_all;
     in_row = ap (λ a. has_place (noted a v.row.0) p) rows ∙ old.in_row;
     in_tx = ap (λ a. has_place (noted a v.tx.0) p) txs ∙ old.in_tx;
+    in_writer = ap (λ a. has_place (noted a (mix v.row.0 v.tx.0)) p) writers ∙ old.in_writer;
     coded = ap (λ k. list_all (is_coded v p m.by_code) k.items) known ∙ ap (λ c. list_all (is_coded v p c) n.known.items) codes ∙ old.coded;
     apart = λ t. let u = sym mixed ∙ t in ap (λ s. list_any (is_apart v) (kept s)) slots ∙ ap (list_any (is_apart v)) (kept-push n.slots.items w) ∙ apart_more v w (kept n.slots.items) (old.apart u) (h u);
   }
@@ -176,12 +221,11 @@ none_there slots place w e = let same : None ≡ Some w = sym (at-set_same slots
 
 -- a slot is emptied, and its place is struck from some lists
 pub emptied_keeps : (n m : Notes) (place : ℕ) → WellKept n → m.slots.items ≡ set n.slots.items place None → m.known ≡ n.known → m.mixed ≡ n.mixed → m.all ≡ n.all → m.by_tx ≡ n.by_tx
-    → Shrunk place n.by_row m.by_row → Shrunk place n.by_code m.by_code → WellKept m
-emptied_keeps n m place well slots known mixed all txs rows codes = record {
+    → Shrunk place n.by_row m.by_row → Shrunk place n.by_writer m.by_writer → KeepsOtherUses place n.by_code m.by_code → WellKept m
+emptied_keeps n m place well slots known mixed all txs rows writers codes = record {
   listed = λ p w e. moved w p (λ same. none_there n.slots.items place w (sym (ap (λ s. at s place) slots) ∙ subst (λ q. at m.slots.items q ≡ Some w) same e)) (ap (λ s. at s p) (sym slots) ∙ e);
-  all_rises = subst (λ k. Rises k m.all.items) (sym long) (subst (λ a. Rises (length n.slots.items) a.items) (sym all) well.all_rises);
   rows_rise = λ number. subst (λ k. Rises k (noted m.by_row number)) (sym long) ((rows number).rises (length n.slots.items) (well.rows_rise number));
-  codes_rise = λ number. subst (λ k. Rises k (noted m.by_code number)) (sym long) ((codes number).rises (length n.slots.items) (well.codes_rise number));
+  rows = λ r p t. ap (λ a. has_place a.items r) all ∙ well.rows r p ((rows r).only p t);
 } where
   long : length m.slots.items ≡ length n.slots.items
   long = ap (λ s. length s) slots ∙ length-set n.slots.items place None
@@ -194,27 +238,26 @@ emptied_keeps n m place well slots known mixed all txs rows codes = record {
 
   moved : (w : Noted) (p : ℕ) → (p ≡ place → ⊥) → at (set n.slots.items place None) p ≡ Some w → IsListed m w p
   moved w p h e = let old = well.listed p w (sym (at-set_other n.slots.items place p h) ∙ e) in let other = other_place p place h in record {
-    in_all = ap (λ a. has_place a.items p) all ∙ old.in_all;
     in_row = (rows w.row.0).keeps p other old.in_row;
     in_tx = ap (λ a. has_place (noted a w.tx.0) p) txs ∙ old.in_tx;
-    coded = ap (λ k. list_all (is_coded w p m.by_code) k.items) known ∙ all_coded_on w p n.by_code m.by_code (λ code. (codes code).keeps p other) n.known.items old.coded;
+    in_writer = (writers (mix w.row.0 w.tx.0)).keeps p other old.in_writer;
+    coded = ap (λ k. list_all (is_coded w p m.by_code) k.items) known ∙ all_coded_on w p n.by_code m.by_code (λ code. codes w.row.0 p code other) n.known.items old.coded;
     apart = λ t. ap (λ s. list_any (is_apart w) (kept s)) slots ∙ fewer (is_apart w) (old.apart (sym mixed ∙ t));
   }
 
 -- a place is struck from those of a transaction that made no note there
 pub struck_keeps : (n m : Notes) (tx : TxId) (place : ℕ) → WellKept n → passes (λ w. same_tx w.tx tx) (at n.slots.items place) ≡ false → m.slots ≡ n.slots → m.known ≡ n.known → m.mixed ≡ n.mixed
-    → m.all ≡ n.all → m.by_row ≡ n.by_row → m.by_code ≡ n.by_code → Shrunk place n.by_tx m.by_tx → ((other : ℕ) → (other == tx.0) ≡ false → noted m.by_tx other ≡ noted n.by_tx other) → WellKept m
-struck_keeps n m tx place well none slots known mixed all rows codes txs others = record {
+    → m.all ≡ n.all → m.by_row ≡ n.by_row → m.by_writer ≡ n.by_writer → m.by_code ≡ n.by_code → Shrunk place n.by_tx m.by_tx → ((other : ℕ) → (other == tx.0) ≡ false → noted m.by_tx other ≡ noted n.by_tx other) → WellKept m
+struck_keeps n m tx place well none slots known mixed all rows writers codes txs others = record {
   listed = λ p w e. let here = sym (ap (λ s. at s.items p) slots) ∙ e in let old = well.listed p w here in record {
-    in_all = ap (λ a. has_place a.items p) all ∙ old.in_all;
     in_row = ap (λ a. has_place (noted a w.row.0) p) rows ∙ old.in_row;
     in_tx = step w p here old.in_tx (w.tx.0 == tx.0) refl;
+    in_writer = ap (λ a. has_place (noted a (mix w.row.0 w.tx.0)) p) writers ∙ old.in_writer;
     coded = ap (λ k. list_all (is_coded w p m.by_code) k.items) known ∙ ap (λ c. list_all (is_coded w p c) n.known.items) codes ∙ old.coded;
     apart = λ t. ap (λ s. list_any (is_apart w) (kept s.items)) slots ∙ old.apart (sym mixed ∙ t);
   };
-  all_rises = subst (λ s. Rises (length s.items) m.all.items) (sym slots) (subst (λ a. Rises (length n.slots.items) a.items) (sym all) well.all_rises);
   rows_rise = λ number. subst (λ s. Rises (length s.items) (noted m.by_row number)) (sym slots) (subst (λ a. Rises (length n.slots.items) (noted a number)) (sym rows) (well.rows_rise number));
-  codes_rise = λ number. subst (λ s. Rises (length s.items) (noted m.by_code number)) (sym slots) (subst (λ a. Rises (length n.slots.items) (noted a number)) (sym codes) (well.codes_rise number));
+  rows = all_same n m rows all well.rows;
 } where
   step : (w : Noted) (p : ℕ) → at n.slots.items p ≡ Some w → has_place (noted n.by_tx w.tx.0) p ≡ true → (b : Bool) → (w.tx.0 == tx.0) ≡ b → has_place (noted m.by_tx w.tx.0) p ≡ true
   step w p e h false own = ap (λ l. has_place l p) (others w.tx.0 own) ∙ h
@@ -224,22 +267,21 @@ struck_keeps n m tx place well none slots known mixed all rows codes txs others 
 
 -- one key more is known, of a table without notes
 pub learnt_keeps : (n m : Notes) (key : KnownKey) → WellKept n → list_any (λ w. w.table.0 == key.table.0) (kept n.slots.items) ≡ false → m.slots ≡ n.slots → m.known.items ≡ n.known.items ++ key ∷ []
-    → m.mixed ≡ n.mixed → m.all ≡ n.all → m.by_row ≡ n.by_row → m.by_tx ≡ n.by_tx → m.by_code ≡ n.by_code → WellKept m
-learnt_keeps n m key well none slots known mixed all rows txs codes = record {
+    → m.mixed ≡ n.mixed → m.all ≡ n.all → m.by_row ≡ n.by_row → m.by_tx ≡ n.by_tx → m.by_writer ≡ n.by_writer → m.by_code ≡ n.by_code → WellKept m
+learnt_keeps n m key well none slots known mixed all rows txs writers codes = record {
   listed = λ p w e. let here = sym (ap (λ s. at s.items p) slots) ∙ e in let old = well.listed p w here in record {
-    in_all = ap (λ a. has_place a.items p) all ∙ old.in_all;
     in_row = ap (λ a. has_place (noted a w.row.0) p) rows ∙ old.in_row;
     in_tx = ap (λ a. has_place (noted a w.tx.0) p) txs ∙ old.in_tx;
+    in_writer = ap (λ a. has_place (noted a (mix w.row.0 w.tx.0)) p) writers ∙ old.in_writer;
     coded = ap (λ k. list_all (is_coded w p m.by_code) k) known ∙ ap (λ c. list_all (is_coded w p c) (n.known.items ++ key ∷ [])) codes ∙ coded_more w p n.by_code n.known.items key old.coded (new w p here);
     apart = λ t. ap (λ s. list_any (is_apart w) (kept s.items)) slots ∙ old.apart (sym mixed ∙ t);
   };
-  all_rises = subst (λ s. Rises (length s.items) m.all.items) (sym slots) (subst (λ a. Rises (length n.slots.items) a.items) (sym all) well.all_rises);
   rows_rise = λ number. subst (λ s. Rises (length s.items) (noted m.by_row number)) (sym slots) (subst (λ a. Rises (length n.slots.items) (noted a number)) (sym rows) (well.rows_rise number));
-  codes_rise = λ number. subst (λ s. Rises (length s.items) (noted m.by_code number)) (sym slots) (subst (λ a. Rises (length n.slots.items) (noted a number)) (sym codes) (well.codes_rise number));
+  rows = all_same n m rows all well.rows;
 } where
   new : (w : Noted) (p : ℕ) → at n.slots.items p ≡ Some w → is_coded w p n.by_code key ≡ true
   new w p e =
-      ap (λ b. not b || option_map_or (λ code. has_place (noted n.by_code code) p) (note_code key w) true) (sym (ap (passes (λ v. v.table.0 == key.table.0)) e) ∙ none_at (λ v. v.table.0 == key.table.0) n.slots.items none p)
+      ap (λ b. not b || option_map_or (λ code. is_used n.by_code w.row.0 p code) (note_code key w) true) (sym (ap (passes (λ v. v.table.0 == key.table.0)) e) ∙ none_at (λ v. v.table.0 == key.table.0) n.slots.items none p)
 
 -- the places of a row's notes
 pub row_listed : (n : Notes) (row : RowId) (test : Noted → Bool) → WellKept n → ((w : Noted) → test w ≡ true → (w.row.0 == row.0) ≡ true) → Listed n.slots.items (noted n.by_row row.0) test
@@ -259,6 +301,17 @@ pub any_of_row : (n : Notes) (row : RowId) (test : Noted → Bool) (places : Lis
     → b ≡ list_any (λ p. passes test (at n.slots.items p)) places → b ≡ list_any test (kept n.slots.items)
 any_of_row n row test places b well of_row e is =
     is ∙ any_listed test n.slots.items places (subst (λ l. Listed n.slots.items l test) (sym e) (row_listed n row test well of_row))
+
+-- likewise at a place of its row and transaction
+pub any_of_writer : (n : Notes) (row : RowId) (tx : TxId) (test : Noted → Bool) (places : List ℕ) (b : Bool) → WellKept n → ((w : Noted) → test w ≡ true → ((w.row.0 == row.0) && same_tx w.tx tx) ≡ true)
+    → places ≡ noted n.by_writer (mix row.0 tx.0) → b ≡ list_any (λ p. passes test (at n.slots.items p)) places → b ≡ list_any test (kept n.slots.items)
+any_of_writer n row tx test places b well of_writer e is = is ∙ any_listed test n.slots.items places (subst (λ l. Listed n.slots.items l test) (sym e) listed) where
+  listed : Listed n.slots.items (noted n.by_writer (mix row.0 tx.0)) test
+  listed place h =
+      let s = passes_some test (at n.slots.items place) h in
+      let t = both (s.0.row.0 == row.0) (same_tx s.0.tx tx) (of_writer s.0 s.2) in
+      let same : mix s.0.row.0 s.0.tx.0 ≡ mix row.0 tx.0 = (λ i. mix (eqb-true s.0.row.0 row.0 t.0 i) (eqb-true s.0.tx.0 tx.0 t.1 i)) in
+      subst (λ r. has_place (noted n.by_writer r) place ≡ true) same (well.listed place s.0 s.1).in_writer
 
 -- what an addition does, whether or not it is refused memory
 pub grown_by : {A E : Type 0} (place : ℕ) (old new : Places) (number : ℕ) (r : Result A E) → OnOk r (noted new number ≡ noted old number ++ place ∷ [])

@@ -1,13 +1,12 @@
-//! Keys that the index knows, and where the notes that have them are listed.
+//! Keys that the index knows, and the listing of notes by their codes.
 ghost use Rattle.std.specs.Prelude.{◌≡◌, ◌==◌, ◌&&◌, true, OnOk, nat_eq};
 ghost use Rattle.std.specs.List.{list_all, list_any};
 ghost use Rattle.unique_keys.specs.Inner.Codes.{note_code};
-ghost use Rattle.unique_keys.specs.Inner.Listing.{Grown, Shrunk, is_coded, is_key};
+ghost use Rattle.unique_keys.specs.Inner.Listing.{KeepsOtherUses, KeepsUses, is_coded, is_key};
 
+use crate::code_lists::CodeLists;
 use crate::codes::key_code;
-use crate::listing::{add, strike};
 use crate::noted::Noted;
-use places::Places;
 use row_versions::TableId;
 use std::alloc::AllocError;
 
@@ -41,56 +40,56 @@ fn note_code(key: &KnownKey, note: &Noted) -> Option<u64>
     }
 }
 
-/// Lists the place of the note for the key.
+/// Lists the note for the key.
 fn add_code(
-    by_code: &mut Places,
+    lists: &mut CodeLists,
     key: &KnownKey,
     note: &Noted,
     place: usize,
 ) -> Result<(), AllocError>
-    ensures grown { Grown place by_code.old by_code.new }
-    ensures coded { OnOk result (is_coded note.now place by_code.new key.now ≡ true) }
+    ensures kept { KeepsUses lists.old lists.new }
+    ensures coded { OnOk result (is_coded note.now place lists.new key.now ≡ true) }
 {
     if note.table.0 == key.table.0 {
         if let Some(code) = note_code(key, note) {
-            return add(by_code, code, place);
+            return lists.add(code, note.row, place);
         }
     }
     Ok(())
 }
 
-/// Lists the place of the note for each of the keys.
+/// Lists the note for each of the keys.
 pub fn add_codes(
-    by_code: &mut Places,
+    lists: &mut CodeLists,
     known: &[KnownKey],
     note: &Noted,
     place: usize,
 ) -> Result<(), AllocError>
-    ensures grown { Grown place by_code.old by_code.new }
-    ensures coded { OnOk result (list_all (is_coded note.now place by_code.new) known.now ≡ true) }
+    ensures kept { KeepsUses lists.old lists.new }
+    ensures coded { OnOk result (list_all (is_coded note.now place lists.new) known.now ≡ true) }
 {
     for key in known {
-        add_code(by_code, key, note, place)?;
+        add_code(lists, key, note, place)?;
     }
     Ok(())
 }
 
-/// Strikes the place of the note for the key.
-fn strike_code(by_code: &mut Places, key: &KnownKey, note: &Noted, place: usize)
-    ensures { Shrunk place by_code.old by_code.new }
+/// Strikes the note for the key.
+fn strike_code(lists: &mut CodeLists, key: &KnownKey, note: &Noted, place: usize)
+    ensures { KeepsOtherUses place lists.old lists.new }
 {
     if note.table.0 == key.table.0 {
         if let Some(code) = note_code(key, note) {
-            strike(by_code, code, place);
+            lists.strike(code, note.row, place);
         }
     }
 }
 
-/// Strikes the place of the note for each of the keys.
-pub fn strike_codes(by_code: &mut Places, known: &[KnownKey], note: &Noted, place: usize)
-    ensures { Shrunk place by_code.old by_code.new }
+/// Strikes the note for each of the keys.
+pub fn strike_codes(lists: &mut CodeLists, known: &[KnownKey], note: &Noted, place: usize)
+    ensures { KeepsOtherUses place lists.old lists.new }
 {
     for key in known {
-        strike_code(by_code, key, note, place);
+        strike_code(lists, key, note, place);
     }
 }

@@ -2,6 +2,7 @@
 #![tactic(auto)]
 
 mod blocking;
+mod code_lists;
 mod codes;
 mod key_index;
 mod keys;

@@ -5,10 +5,12 @@ ghost use Rattle.std.specs.Option.{option_copied};
 ghost use Rattle.places.specs.Noted.{has_place, noted};
 ghost use Rattle.row_versions.specs.Members.{same_tx};
 ghost use Rattle.unique_keys.specs.Writes.{notes_without};
-ghost use Rattle.unique_keys.specs.Inner.Slots.{at, is_elsewhere, kept, passes, Rises};
-ghost use Rattle.unique_keys.specs.Inner.WellKept.{IsListed, Leads, WellKept};
+ghost use Rattle.unique_keys.specs.Inner.Codes.{mix};
+ghost use Rattle.unique_keys.specs.Inner.Slots.{at, is_elsewhere, kept, passes};
+ghost use Rattle.unique_keys.specs.Inner.WellKept.{AreAll, IsListed, Leads, WellKept};
 
-use crate::codes::key_code;
+use crate::code_lists::CodeLists;
+use crate::codes::{key_code, mix};
 use crate::known::{KnownKey, add_codes, is_known, strike_codes};
 use crate::listing::{add, push_place, strike};
 use crate::noted::Noted;
@@ -22,12 +24,14 @@ use std::alloc::{AllocError, Global};
 pub struct Notes {
     alloc: Global,
     pub slots: Vec<Option<Noted>>,
-    /// Every place.
+    /// Every row.
     all: Vec<usize>,
-    /// From a code to the places of the notes of which a known key has it.
-    by_code: Places,
+    /// From a code to the rows that have, or had, a known key of that code.
+    by_code: CodeLists,
     /// From a row to the places of its notes.
     pub by_row: Places,
+    /// From a row and a transaction to the places of the notes of both.
+    by_writer: Places,
     /// From a transaction to the places of its notes.
     by_tx: Places,
     known: Vec<KnownKey>,
@@ -64,6 +68,18 @@ fn has_table(slots: &[Option<Noted>], table: TableId) -> bool
     slots.iter().any(|slot| is_of_table(slot, table))
 }
 
+/// Lists the row among all, if no place is listed for it.
+fn list_row(all: &mut Vec<usize>, by_row: &Places, row: RowId) -> Result<(), AllocError>
+    requires { AreAll by_row.now all.old.items }
+    ensures rows { AreAll by_row.now all.new.items }
+    ensures listed { OnOk result (has_place all.new.items row.0 ≡ true) }
+{
+    if by_row.at(row.0).is_empty() {
+        push_place(all, row.0 as usize)?;
+    }
+    Ok(())
+}
+
 impl Notes {
     /// No note. It takes no memory.
     pub fn new(alloc: Global) -> Notes
@@ -74,8 +90,9 @@ impl Notes {
             alloc,
             slots: Vec::new(alloc),
             all: Vec::new(alloc),
-            by_code: Places::new(alloc),
+            by_code: CodeLists::new(alloc),
             by_row: Places::new(alloc),
+            by_writer: Places::new(alloc),
             by_tx: Places::new(alloc),
             known: Vec::new(alloc),
             mixed: false,
@@ -147,9 +164,10 @@ impl Notes {
         ensures listed { OnOk result (IsListed self.new note.now place) }
     {
         self.mixed = self.is_mixed_by(note);
-        push_place(&mut self.all, place)?;
+        list_row(&mut self.all, &self.by_row, note.row)?;
         add(&mut self.by_row, note.row.0, place)?;
         add(&mut self.by_tx, note.tx.0, place)?;
+        add(&mut self.by_writer, mix(note.row.0, note.tx.0), place)?;
         add_codes(&mut self.by_code, &self.known, note, place)?;
         Ok(())
     }
@@ -167,7 +185,7 @@ impl Notes {
         Ok(())
     }
 
-    /// Empties the slot at the place, and strikes it where its note was listed by its row and its keys.
+    /// Empties the slot at the place, and strikes it where its note was listed by its row, its row and its transaction, and its keys.
     fn empty(&mut self, place: usize)
         requires { WellKept self.old }
         ensures slots { self.new.slots.items ≡ set self.old.slots.items place None }
@@ -176,6 +194,7 @@ impl Notes {
     {
         if let Some(note) = take(&mut self.slots, place) {
             strike(&mut self.by_row, note.row.0, place);
+            strike(&mut self.by_writer, mix(note.row.0, note.tx.0), place);
             strike_codes(&mut self.by_code, &self.known, &note, place);
         }
     }
@@ -251,17 +270,23 @@ impl Notes {
         Ok(())
     }
 
-    /// Places among which are those of all notes that may have the key: by its code where it is known, else every place.
+    /// Places among which are those of all notes of the row by the transaction.
+    pub fn written(&self, row: RowId, tx: TxId) -> &[usize]
+        ensures { result.now ≡ noted self.now.by_writer (mix row.0 tx.0) }
+    {
+        self.by_writer.at(mix(row.0, tx.0))
+    }
+
+    /// Rows among which are all that may have the key: by its code where it is known, else every row.
     pub fn candidates(&self, table: TableId, columns: &[u32], asked: &[Value]) -> &[usize]
         requires { WellKept self.now }
-        ensures leads { Leads self.now.slots.items result.now table columns.now asked.now }
-        ensures rises { Rises (length self.now.slots.items) result.now }
+        ensures { Leads self.now.slots.items result.now table columns.now asked.now }
     {
         if self.mixed || !is_known(&self.known, table, columns) {
             return self.all.as_slice();
         }
         match key_code(table, columns, asked) {
-            Some(code) => self.by_code.at(code),
+            Some(code) => self.by_code.rows(code),
             None => &[],
         }
     }
