@@ -64,18 +64,14 @@ impl<'t> Group<'t> {
     ) -> Result<Group<'t>, AllocError>
         ensures { IfOk result (λ group. (group.outcome ≡ outcome.entry) × (group.count ≡ 1)) }
     {
-        match copied_entries(alloc, entries) {
-            Ok(nearest) => Ok(Group {
-                outcome,
-                count: 1,
-                nearest,
-                switches: switches_in(entries),
-            }),
-            Err(fault) => {
-                outcome.end();
-                Err(fault)
-            }
-        }
+        let nearest = copied_entries(alloc, entries)?;
+        let switches = switches_in(entries);
+        Ok(Group {
+            outcome,
+            count: 1,
+            nearest,
+            switches,
+        })
     }
 
     /// Keeps the permutation if it is nearer.
@@ -182,7 +178,6 @@ impl<'t> Counted<'t> {
     {
         match place_of(self.groups.as_slice(), &outcome) {
             Some(k) => {
-                outcome.end();
                 self.add_known(alloc, k, entries)?;
                 Ok(())
             }
@@ -192,7 +187,4 @@ impl<'t> Counted<'t> {
             }
         }
     }
-
-    /// Lets go of what was counted, as `RunOutcome::end` does.
-    pub fn end(self) {}
 }

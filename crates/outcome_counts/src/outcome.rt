@@ -9,8 +9,3 @@ pub struct RunOutcome<'t> {
     pub answers: Vec<Vec<Outcome<'t>>>,
     pub tables: Vec<Option<Vec<Row>>>,
 }
-
-impl<'t> RunOutcome<'t> {
-    /// Lets go of it. A caller that drops it proves anew how each of its parts is dropped.
-    pub fn end(self) {}
-}
