@@ -12,6 +12,7 @@ use result_tables::write_table;
 use session_machine::{Order, Outcome};
 use spec_parser::Entry;
 use std::alloc::{AllocError, Global};
+use std::fmt::Write;
 use std::test::Fail;
 use test_devices::Takes;
 
@@ -24,38 +25,53 @@ const STEPS: &[u32] = &[1, 5, 9, 41, 101, 1_000];
 
 const FEWER: &[u32] = &[0, 1, 5, 9, 41, 101, 1_001];
 
-/// A file: its first words, words that come so many times, each with its number twice, and its last words.
+/// A file: its first words, words that come so many times with their number between them, and its last words.
 #[derive(Clone, Copy)]
 struct Words {
     first: &'static str,
-    each: Option<[&'static str; 3]>,
+    is_long: bool,
+    before: &'static str,
+    between: &'static str,
+    behind: &'static str,
     last: &'static str,
 }
 
 const ONE_STEP: Words = Words {
     first: "session s step a { }",
-    each: None,
+    is_long: false,
+    before: "",
+    between: "",
+    behind: "",
     last: "",
 };
 
 /// Each session's setup, its step and its teardown, in blocks that follow one another.
 const MANY_SESSIONS: Words = Words {
     first: "",
-    each: Some(["session s", " setup { } step a", " { } teardown { } "]),
+    is_long: true,
+    before: "session s",
+    between: " setup { } step a",
+    behind: " { } teardown { } ",
     last: "",
 };
 
 /// Setups, and a step in the block behind theirs.
 const MANY_SETUPS: Words = Words {
     first: "",
-    each: Some(["setup { ", " ", " } "]),
+    is_long: true,
+    before: "setup { ",
+    between: " ",
+    behind: " } ",
     last: "session s step a { }",
 };
 
 /// One session with many steps.
 const MANY_STEPS: Words = Words {
     first: "session s",
-    each: Some([" step a", " { ", " }"]),
+    is_long: true,
+    before: " step a",
+    between: " { ",
+    behind: " }",
     last: "",
 };
 
@@ -337,12 +353,19 @@ const CASES: [Case; 14] = [
     },
 ];
 
+/// Puts the words of this number.
+fn put_words(out: &mut String, words: Words, number: u32) -> Result<(), AllocError> {
+    let before = words.before;
+    let between = words.between;
+    let behind = words.behind;
+    write!(out, "{before}{number}{between}{number}{behind}")
+}
+
 fn text(alloc: Global, words: Words, count: u32) -> Result<String, AllocError> {
     let mut text = String::from_str(alloc, words.first)?;
-    if let Some([a, b, c]) = words.each {
-        for n in 0..count {
-            let part = format!(in alloc; "{a}{n}{b}{n}{c}")?;
-            text.push_str(part.as_str())?;
+    if words.is_long {
+        for number in 0..count {
+            put_words(&mut text, words, number)?;
         }
     }
     text.push_str(words.last)?;
