@@ -2,6 +2,8 @@
 #![tactic(auto)]
 
 #[cfg(test)]
+mod asked;
+#[cfg(test)]
 mod faults;
 #[cfg(test)]
 mod histories;
@@ -10,10 +12,10 @@ mod lines;
 #[cfg(test)]
 mod lists;
 #[cfg(test)]
-mod many_sessions;
-#[cfg(test)]
 mod plans;
 #[cfg(test)]
 mod sizes;
 #[cfg(test)]
 mod texts;
+#[cfg(test)]
+mod values;

@@ -2,7 +2,8 @@
 
 ghost use Rattle.std.specs.Prelude.{◌+◌, ◌<◌, ◌^◌, length};
 
-use crate::histories::{done, holds, launch};
+use crate::histories::Part::{self, Ends, To};
+use crate::histories::{history, holds, once};
 use report_lines::{Line, PermutationRun, PlannedLaunch, PlannedRun, RunState, Schedule, report};
 use session_machine::{HistItem, Order};
 use spec_parser::{Entry, Marker};
@@ -16,6 +17,14 @@ fn entry(alloc: Global, step: u32, markers: &[Marker]) -> Result<Entry, AllocErr
     })
 }
 
+/// Two steps of session 1, of which the first has these markers.
+fn two_steps(alloc: Global, markers: &[Marker]) -> Result<[Entry; 2], AllocError> {
+    let first = entry(alloc, 0, markers)?;
+    let second = entry(alloc, 1, &[])?;
+    Ok([first, second])
+}
+
+/// The lines are these, and the second step is due.
 fn lines_are(
     alloc: Global,
     entries: &[Entry],
@@ -25,23 +34,35 @@ fn lines_are(
     requires { length entries.now + 3 < 2 ^ 64 }
 {
     let run = PermutationRun::new(alloc, entries, items, 0)?;
-    let (lines_so_far, state) = report(alloc, &run)?;
-    Ok(lines_so_far.lines() == lines && state == RunState::Due(1))
+    let (so_far, state) = report(alloc, &run)?;
+    Ok(so_far.lines() == lines && state == RunState::Due(1))
 }
 
-/// a(*) b: both of session 1.
+fn lines_behind(
+    alloc: Global,
+    entries: &[Entry],
+    parts: &[Part],
+    lines: &[Line],
+) -> Result<bool, AllocError>
+    requires { length entries.now + 3 < 2 ^ 64 }
+{
+    let items = history(alloc, &[once(parts)], 1)?;
+    lines_are(alloc, entries, &items, lines)
+}
+
+/// The lines of a(*) b behind these parts.
+fn says(alloc: Global, parts: &[Part], lines: &[Line]) -> Result<bool, AllocError> {
+    let entries = two_steps(alloc, &[Marker::Star])?;
+    lines_behind(alloc, &entries, parts, lines)
+}
+
 #[test]
 fn a_step_is_reported_before_its_session_goes_on(rt: HostRuntime) -> Result<(), AllocError> {
-    let alloc = rt.alloc();
-    let first = entry(alloc, 0, &[Marker::Star])?;
-    let second = entry(alloc, 1, &[])?;
-    let entries = [first, second];
-    let items = [launch(1, 0), done(1)];
     let lines = [
         Line::Waiting { entry: 0 },
         Line::Completed { entry: 0, seen: 2 },
     ];
-    holds(&rt, lines_are(alloc, &entries, &items, &lines)?);
+    holds(&rt, says(rt.alloc(), &[To(1, 0), Ends(1)], &lines)?);
     Ok(())
 }
 
@@ -74,40 +95,38 @@ fn due<'a>(
     PlannedRun::new(entries, items, &TWO_BLOCKS).due(alloc)
 }
 
-fn due_is(
-    alloc: Global,
-    entries: &[Entry],
-    items: &[HistItem<'_>],
-    order: Order,
-) -> Result<bool, AllocError>
+fn due_of(alloc: Global, entries: &[Entry], items: &[HistItem<'_>]) -> Result<Order, AllocError>
     requires { length entries.now + 3 < 2 ^ 64 }
 {
-    Ok(due(alloc, entries, items)? == order)
+    due(alloc, entries, items)
+}
+
+fn due_behind(alloc: Global, entries: &[Entry], parts: &[Part]) -> Result<Order, AllocError>
+    requires { length entries.now + 3 < 2 ^ 64 }
+{
+    let items = history(alloc, &[once(parts)], 1)?;
+    due_of(alloc, entries, &items)
+}
+
+/// What is due behind these parts, of the two steps.
+fn next(alloc: Global, markers: &[Marker], parts: &[Part]) -> Result<Order, AllocError> {
+    let entries = two_steps(alloc, markers)?;
+    due_behind(alloc, &entries, parts)
+}
+
+fn launch(block: u32) -> Order {
+    Order::Launch { session: 1, block }
 }
 
 #[test]
 fn the_second_step_is_due_after_the_first(rt: HostRuntime) -> Result<(), AllocError> {
-    let alloc = rt.alloc();
-    let first = entry(alloc, 0, &[Marker::Star])?;
-    let second = entry(alloc, 1, &[])?;
-    let entries = [first, second];
-    let items = [launch(1, 0), done(1)];
-    let order = Order::Launch {
-        session: 1,
-        block: 1,
-    };
-    holds(&rt, due_is(alloc, &entries, &items, order)?);
+    let order = next(rt.alloc(), &[Marker::Star], &[To(1, 0), Ends(1)])?;
+    holds(&rt, order == launch(1));
     Ok(())
 }
 
 #[test]
 fn the_first_step_is_due_before_anything_has_come(rt: HostRuntime) -> Result<(), AllocError> {
-    let alloc = rt.alloc();
-    let entries = [entry(alloc, 0, &[])?, entry(alloc, 1, &[])?];
-    let order = Order::Launch {
-        session: 1,
-        block: 0,
-    };
-    holds(&rt, due_is(alloc, &entries, &[], order)?);
+    holds(&rt, next(rt.alloc(), &[], &[])? == launch(0));
     Ok(())
 }

@@ -6,7 +6,7 @@ ghost use Rattle.spec_parser.specs.Stands.{Stands};
 
 use crate::histories::holds;
 use permutation_lists::{Interleavings, Permutations, line_of};
-use spec_parser::{Spec, SpecFault, parse_spec, specs_stand};
+use spec_parser::{Entry, Spec, SpecFault, parse_spec, specs_stand};
 use std::alloc::{AllocError, Global};
 use std::test::Fail;
 
@@ -38,19 +38,42 @@ fn read(alloc: Global, text: &str) -> Result<Spec<'_>, SpecFault>
     parse_spec(alloc, text)
 }
 
-/// All lines of a file, which is a spec.
-fn lines(alloc: Global, text: &str) -> Result<Vec<u8>, Fail> {
-    let spec = read(alloc, text)?;
-    let mut permutations = Permutations::of(alloc, &spec)?;
+fn push_line(
+    alloc: Global,
+    lines: &mut Vec<u8>,
+    spec: &Spec<'_>,
+    entries: &[Entry],
+) -> Result<(), AllocError> {
+    let line = line_of(alloc, spec, entries)?;
+    lines.extend_from_slice(&line)
+}
+
+/// The lines of all permutations.
+fn lines_of(alloc: Global, spec: &Spec<'_>) -> Result<Vec<u8>, AllocError>
+    requires { Stands (spec_view spec.now) }
+{
     let mut lines = Vec::new(alloc);
+    let mut permutations = Permutations::of(alloc, spec)?;
     for _ in 0..10_000 {
         if !permutations.advance(alloc)? {
-            return Ok(lines);
+            break;
         }
-        let line = line_of(alloc, &spec, permutations.entries())?;
-        lines.extend_from_slice(&line)?;
+        push_line(alloc, &mut lines, spec, permutations.entries())?;
     }
     Ok(lines)
+}
+
+/// Whether these are the lines of the file.
+fn has_lines(alloc: Global, text: &str, wanted: &str) -> Result<bool, Fail> {
+    let spec = read(alloc, text)?;
+    lists(alloc, &spec, wanted)
+}
+
+fn lists(alloc: Global, spec: &Spec<'_>, wanted: &str) -> Result<bool, Fail>
+    requires { Stands (spec_view spec.now) }
+{
+    let lines = lines_of(alloc, spec)?;
+    Ok(lines.as_slice() == wanted.as_bytes())
 }
 
 #[test]
@@ -59,7 +82,6 @@ fn lines_are_listed_as_they_stand(rt: HostRuntime) -> Result<(), Fail> {
         "session s step a { } step \"b\"\"c\" { } permutation a(*, \"b\"\"c\") \"b\"\"c\"(a) a permutation \"b\"\"c\"";
     let wanted =
         "permutation \"a\"(*, \"b\"\"c\") \"b\"\"c\"(\"a\") \"a\"\npermutation \"b\"\"c\"\n";
-    let found = lines(rt.alloc(), text)?;
-    holds(&rt, found.as_slice() == wanted.as_bytes());
+    holds(&rt, has_lines(rt.alloc(), text, wanted)?);
     Ok(())
 }
