@@ -9,207 +9,167 @@ use spec_parser::{SpecFault, What};
 use sql_trees::SqlFault;
 use std::alloc::{AllocError, Global};
 use std::process::Abort;
-use std::test::Fail;
 use test_devices::Takes;
 
-/// A fault, of which those of texts stand at a byte: of a block, which begins at byte 1000, at a byte of it.
-#[derive(Clone, Copy)]
-enum Met {
-    Read,
-    Write,
-    SetupFailed,
-    SetupWaits,
-    ScheduleBroken,
-    TooManyPermutations,
-    Threads,
-    NotUtf8 { at: usize },
-    Memory,
-    Token(FaultKind),
-    Expected { what: What, at: usize },
-    DuplicateStep,
-    UndefinedStep,
-    UndefinedMarker,
-    NoticesLeftOut,
-    Limit,
-    Block(SqlFault),
-}
-
-const FAR: usize = 1_048_576;
-
-fn spec_fault(met: Met) -> SpecFault {
-    match met {
-        Met::Expected { what, at } => SpecFault::Expected { what, at },
-        Met::DuplicateStep => SpecFault::DuplicateStep { at: FAR },
-        Met::UndefinedStep => SpecFault::UndefinedStep { at: FAR },
-        Met::UndefinedMarker => SpecFault::UndefinedMarker { at: FAR },
-        Met::NoticesLeftOut => SpecFault::NoticesLeftOut { at: FAR },
-        _ => SpecFault::Limit { at: FAR },
-    }
-}
-
-fn fault(alloc: Global, met: Met) -> Result<RunFault, AllocError> {
-    Ok(match met {
-        Met::Read => RunFault::Read,
-        Met::Write => RunFault::Write,
-        Met::SetupFailed => RunFault::SetupFailed {
-            text: String::from_str(alloc, "division by zero")?,
-        },
-        Met::SetupWaits => RunFault::SetupWaits,
-        Met::ScheduleBroken => RunFault::ScheduleBroken,
-        Met::TooManyPermutations => RunFault::TooManyPermutations,
-        Met::Threads => RunFault::Threads(ThreadFault::Gate),
-        Met::NotUtf8 { at } => RunFault::NotUtf8 { at },
-        Met::Memory => RunFault::Memory,
-        Met::Token(kind) => RunFault::Lex(Fault { kind, at: 17 }),
-        Met::Block(fault) => RunFault::Sql(BlockFault { block: 1000, fault }),
-        _ => RunFault::Spec(spec_fault(met)),
-    })
-}
-
-/// Whether the program puts this line behind its name, and ends with 1 or 3; no memory is wanted for that.
-fn is_put(fault: RunFault, line: &str) -> bool {
+/// A fault prints this line, and the program puts the same one behind its name; no memory is wanted for that.
+fn is_told(rt: &impl Abort, alloc: Global, fault: RunFault, line: &str) -> Result<(), AllocError> {
     let mut err = Takes::new(usize::MAX);
+    let told = format!(in alloc; "{fault}");
     let status = end(Err(fault), b"", false, &mut err);
     let text = err.text().strip_prefix(b"isolationtester: ".as_slice());
     let text = text.and_then(|text| text.strip_suffix(b"\n".as_slice()));
-    text == Some(line.as_bytes()) && (status == 1 || status == 3)
-}
-
-fn prints(alloc: Global, fault: &RunFault, line: &str) -> Result<bool, AllocError> {
-    let told = format!(in alloc; "{fault}")?;
-    Ok(told.as_str() == line)
-}
-
-/// A fault prints its line, and the program puts the same one.
-fn is_told(rt: &impl Abort, alloc: Global, met: Met, line: &str) -> Result<(), AllocError> {
-    let fault = fault(alloc, met)?;
-    let printed = prints(alloc, &fault, line);
-    holds(rt, is_put(fault, line), line);
-    holds(rt, printed?, line);
+    holds(rt, text == Some(line.as_bytes()), line);
+    holds(rt, status == 1 || status == 3, line);
+    holds(rt, told?.as_str() == line, line);
     Ok(())
 }
 
-const LINES: [(Met, &str); 36] = [
-    (Met::Read, "R1 Read"),
-    (Met::Write, "R2 Write"),
-    (Met::SetupFailed, "R6 SetupFailed: division by zero"),
-    (Met::SetupWaits, "R7 SetupWaits"),
-    (Met::ScheduleBroken, "R8 ScheduleBroken"),
-    (Met::TooManyPermutations, "R9 TooManyPermutations"),
-    (Met::Threads, "R10 Threads"),
-    (Met::NotUtf8 { at: 17 }, "R11 NotUtf8 at byte 17"),
-    (Met::Memory, "Memory"),
-    (
-        Met::Token(FaultKind::UnterminatedBlock),
-        "L1 UnterminatedBlock at byte 17",
-    ),
-    (
-        Met::Token(FaultKind::UnterminatedName),
-        "L2 UnterminatedName at byte 17",
-    ),
-    (
-        Met::Token(FaultKind::NewlineInName),
-        "L3 NewlineInName at byte 17",
-    ),
-    (
-        Met::Token(FaultKind::UnexpectedByte),
-        "L4 UnexpectedByte at byte 17",
-    ),
-    (
-        Met::Token(FaultKind::FileTooLong),
-        "L5 FileTooLong at byte 17",
-    ),
-    (
-        Met::Token(FaultKind::UnterminatedString),
-        "L6 UnterminatedString at byte 17",
-    ),
-    (
-        Met::Token(FaultKind::UnterminatedComment),
-        "L7 UnterminatedComment at byte 17",
-    ),
-    (
-        Met::Token(FaultKind::NumberTooLarge),
-        "L8 NumberTooLarge at byte 17",
-    ),
-    (
-        Met::Expected {
-            what: What::Session,
-            at: 0,
-        },
-        "S1 Expected Session at byte 0",
-    ),
-    (
-        Met::Expected {
-            what: What::Step,
-            at: FAR,
-        },
-        "S1 Expected Step at byte 1048576",
-    ),
-    (
-        Met::Expected {
-            what: What::Name,
-            at: FAR,
-        },
-        "S1 Expected Name at byte 1048576",
-    ),
-    (
-        Met::Expected {
-            what: What::Block,
-            at: FAR,
-        },
-        "S1 Expected Block at byte 1048576",
-    ),
-    (
-        Met::Expected {
-            what: What::Marker,
-            at: FAR,
-        },
-        "S1 Expected Marker at byte 1048576",
-    ),
-    (
-        Met::Expected {
-            what: What::Item,
-            at: FAR,
-        },
-        "S1 Expected Item at byte 1048576",
-    ),
-    (
-        Met::Expected {
-            what: What::CommaOrClose,
-            at: FAR,
-        },
-        "S1 Expected CommaOrClose at byte 1048576",
-    ),
-    (Met::DuplicateStep, "S2 DuplicateStep at byte 1048576"),
-    (Met::UndefinedStep, "S3 UndefinedStep at byte 1048576"),
-    (Met::UndefinedMarker, "S4 UndefinedMarker at byte 1048576"),
-    (Met::NoticesLeftOut, "S5 NoticesLeftOut at byte 1048576"),
-    (Met::Limit, "S6 Limit at byte 1048576"),
-    (
-        Met::Block(SqlFault::Lex(Fault {
-            kind: FaultKind::NumberTooLarge,
-            at: 26,
-        })),
-        "L8 NumberTooLarge at byte 1026",
-    ),
-    (Met::Block(SqlFault::Syntax(26)), "Q1 Syntax at byte 1026"),
-    (Met::Block(SqlFault::LeftOut(26)), "Q2 LeftOut at byte 1026"),
-    (Met::Block(SqlFault::TooDeep(26)), "Q3 TooDeep at byte 1026"),
-    (Met::Block(SqlFault::TooMany(26)), "Q4 TooMany at byte 1026"),
-    (
-        Met::Block(SqlFault::DdlInSession(26)),
-        "Q5 DdlInSession at byte 1026",
-    ),
-    (
-        Met::Block(SqlFault::BadColumns(26)),
-        "Q6 BadColumns at byte 1026",
-    ),
-];
+#[test]
+fn faults_of_a_run(rt: HostRuntime) -> Result<(), AllocError> {
+    let text = String::from_str(rt.alloc(), "division by zero")?;
+    for (fault, line) in [
+        (RunFault::Read, "R1 Read"),
+        (RunFault::Write, "R2 Write"),
+        (
+            RunFault::SetupFailed { text },
+            "R6 SetupFailed: division by zero",
+        ),
+        (RunFault::SetupWaits, "R7 SetupWaits"),
+        (RunFault::ScheduleBroken, "R8 ScheduleBroken"),
+        (RunFault::TooManyPermutations, "R9 TooManyPermutations"),
+        (RunFault::Threads(ThreadFault::Gate), "R10 Threads"),
+        (RunFault::NotUtf8 { at: 17 }, "R11 NotUtf8 at byte 17"),
+        (RunFault::Memory, "Memory"),
+    ] {
+        is_told(&rt, rt.alloc(), fault, line)?;
+    }
+    Ok(())
+}
 
 #[test]
-fn each_fault_has_its_line(rt: HostRuntime) -> Result<(), Fail> {
-    for (met, line) in LINES {
-        is_told(&rt, rt.alloc(), met, line)?;
+fn faults_of_tokens(rt: HostRuntime) -> Result<(), AllocError> {
+    for (kind, line) in [
+        (
+            FaultKind::UnterminatedBlock,
+            "L1 UnterminatedBlock at byte 17",
+        ),
+        (
+            FaultKind::UnterminatedName,
+            "L2 UnterminatedName at byte 17",
+        ),
+        (FaultKind::NewlineInName, "L3 NewlineInName at byte 17"),
+        (FaultKind::UnexpectedByte, "L4 UnexpectedByte at byte 17"),
+        (FaultKind::FileTooLong, "L5 FileTooLong at byte 17"),
+        (
+            FaultKind::UnterminatedString,
+            "L6 UnterminatedString at byte 17",
+        ),
+        (
+            FaultKind::UnterminatedComment,
+            "L7 UnterminatedComment at byte 17",
+        ),
+        (FaultKind::NumberTooLarge, "L8 NumberTooLarge at byte 17"),
+    ] {
+        let fault = RunFault::Lex(Fault { kind, at: 17 });
+        is_told(&rt, rt.alloc(), fault, line)?;
+    }
+    Ok(())
+}
+
+#[test]
+fn faults_of_a_spec(rt: HostRuntime) -> Result<(), AllocError> {
+    let at = 1_048_576;
+    for (fault, line) in [
+        (
+            SpecFault::Expected {
+                what: What::Session,
+                at: 0,
+            },
+            "S1 Expected Session at byte 0",
+        ),
+        (
+            SpecFault::Expected {
+                what: What::Step,
+                at,
+            },
+            "S1 Expected Step at byte 1048576",
+        ),
+        (
+            SpecFault::Expected {
+                what: What::Name,
+                at,
+            },
+            "S1 Expected Name at byte 1048576",
+        ),
+        (
+            SpecFault::Expected {
+                what: What::Block,
+                at,
+            },
+            "S1 Expected Block at byte 1048576",
+        ),
+        (
+            SpecFault::Expected {
+                what: What::Marker,
+                at,
+            },
+            "S1 Expected Marker at byte 1048576",
+        ),
+        (
+            SpecFault::Expected {
+                what: What::Item,
+                at,
+            },
+            "S1 Expected Item at byte 1048576",
+        ),
+        (
+            SpecFault::Expected {
+                what: What::CommaOrClose,
+                at,
+            },
+            "S1 Expected CommaOrClose at byte 1048576",
+        ),
+        (
+            SpecFault::DuplicateStep { at },
+            "S2 DuplicateStep at byte 1048576",
+        ),
+        (
+            SpecFault::UndefinedStep { at },
+            "S3 UndefinedStep at byte 1048576",
+        ),
+        (
+            SpecFault::UndefinedMarker { at },
+            "S4 UndefinedMarker at byte 1048576",
+        ),
+        (
+            SpecFault::NoticesLeftOut { at },
+            "S5 NoticesLeftOut at byte 1048576",
+        ),
+        (SpecFault::Limit { at }, "S6 Limit at byte 1048576"),
+    ] {
+        is_told(&rt, rt.alloc(), RunFault::Spec(fault), line)?;
+    }
+    Ok(())
+}
+
+/// The byte is that in the file: the block begins at byte 1000.
+#[test]
+fn faults_of_a_block(rt: HostRuntime) -> Result<(), AllocError> {
+    let lexed = Fault {
+        kind: FaultKind::NumberTooLarge,
+        at: 26,
+    };
+    for (fault, line) in [
+        (SqlFault::Lex(lexed), "L8 NumberTooLarge at byte 1026"),
+        (SqlFault::Syntax(26), "Q1 Syntax at byte 1026"),
+        (SqlFault::LeftOut(26), "Q2 LeftOut at byte 1026"),
+        (SqlFault::TooDeep(26), "Q3 TooDeep at byte 1026"),
+        (SqlFault::TooMany(26), "Q4 TooMany at byte 1026"),
+        (SqlFault::DdlInSession(26), "Q5 DdlInSession at byte 1026"),
+        (SqlFault::BadColumns(26), "Q6 BadColumns at byte 1026"),
+    ] {
+        let told = BlockFault { block: 1000, fault };
+        is_told(&rt, rt.alloc(), RunFault::Sql(told), line)?;
     }
     Ok(())
 }

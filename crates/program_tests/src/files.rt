@@ -4,6 +4,8 @@ use crate::asking::{ENDLESS, ends, served};
 use iso_lexer::{FromStd, LONGEST_FILE};
 use std::alloc::{AllocError, Global};
 
+const ONE_STEP: &str = "session s step a { }";
+
 const ONE_STEP_TEXT: &str =
     "Parsed test spec with 1 sessions\n\nstarting permutation: a\nstep a: \n";
 
@@ -18,17 +20,14 @@ fn lengthened(alloc: Global, first: &[u8], len: usize) -> Result<Vec<u8>, AllocE
     Ok(bytes)
 }
 
-/// First bytes, how long the file is, what it prints, what is said of it, and the status.
-const CASES: [(&[u8], usize, &str, &str, u8); 3] = [
-    (b"session s step a { }", LONGEST_FILE, ONE_STEP_TEXT, "", 0),
-    (b"session s step a { }", LONGEST_FILE + 1, "", TOO_LONG, 1),
-    (b"\xff", LONGEST_FILE + 1, "", TOO_LONG, 1),
-];
-
 /// A file is looked at for its length before it is looked at for UTF-8.
 #[test]
 fn the_longest_file_runs_and_one_byte_more_is_too_long(rt: HostRuntime) -> Result<(), AllocError> {
-    for (first, len, text, line, status) in CASES {
+    for (first, len, text, line, status) in [
+        (ONE_STEP.as_bytes(), LONGEST_FILE, ONE_STEP_TEXT, "", 0),
+        (ONE_STEP.as_bytes(), LONGEST_FILE + 1, "", TOO_LONG, 1),
+        (b"\xff".as_slice(), LONGEST_FILE + 1, "", TOO_LONG, 1),
+    ] {
         let file = lengthened(rt.alloc(), first, len)?;
         let mut input = FromStd::new(file.as_slice());
         let run = served(&rt, rt.alloc(), &[], &mut input, ENDLESS)?;

@@ -34,43 +34,23 @@ hello
 
 ";
 
-/// Whether a fault has this text.
-fn has_text(alloc: Global, fault: &anyhow::Error, text: &str) -> Result<bool, AllocError> {
-    let told = format!(in alloc; "{fault}")?;
-    Ok(told.as_str() == text)
-}
-
 /// Whether a fault may come of memory that was refused once: a list that can't grow fails as a device, and a thread's start takes memory.
-fn may_be_want(alloc: Global, fault: &anyhow::Error) -> Result<bool, AllocError> {
+fn may_be_want(alloc: Global, fault: anyhow::Error) -> Result<bool, AllocError> {
     let told = format!(in alloc; "{fault}")?;
     Ok(matches!(told.as_str(), "Memory" | "R2 Write" | "R10 Threads"))
-}
-
-/// Whether the file prints the text; none where the run may have ended for want of memory.
-fn prints(
-    alloc: Global,
-    text: anyhow::Result<Vec<u8>>,
-    wanted: &str,
-) -> Result<Option<bool>, AllocError> {
-    match text {
-        Ok(text) => Ok(Some(text.as_slice() == wanted.as_bytes())),
-        Err(fault) => match may_be_want(alloc, &fault) {
-            Ok(true) => Ok(None),
-            Ok(false) => Ok(Some(false)),
-            Err(fault) => Err(fault),
-        },
-    }
 }
 
 /// The run is made again where memory was refused.
 #[test]
 fn a_file_is_run(rt: HostRuntime) -> Result<(), Fail> {
-    let alloc = rt.alloc();
-    let mut is_printed = prints(alloc, text_of(&rt, alloc, HELLO), HELLO_TEXT)?;
-    if is_printed.is_none() {
-        is_printed = prints(alloc, text_of(&rt, alloc, HELLO), HELLO_TEXT)?;
-    }
-    holds(&rt, is_printed == Some(true), HELLO_TEXT);
+    let text = match text_of(&rt, rt.alloc(), HELLO) {
+        Ok(text) => text,
+        Err(fault) => {
+            holds(&rt, may_be_want(rt.alloc(), fault)?, "a want of memory");
+            text_of(&rt, rt.alloc(), HELLO)?
+        }
+    };
+    holds(&rt, text.as_slice() == HELLO_TEXT.as_bytes(), HELLO_TEXT);
     Ok(())
 }
 
@@ -87,19 +67,17 @@ fn refused_file() -> anyhow::Result<()> {
     Ok(())
 }
 
-fn is_refused(alloc: Global, refused: anyhow::Result<()>, text: &str) -> Result<bool, AllocError> {
-    match refused {
-        Ok(()) => Ok(false),
-        Err(fault) => has_text(alloc, &fault, text),
-    }
-}
-
 #[test]
 fn faults_are_errors_of_a_program(rt: HostRuntime) -> Result<(), Fail> {
-    let alloc = rt.alloc();
-    let block = is_refused(alloc, refused_block(), "Q1 Syntax at byte 19")?;
-    let file = is_refused(alloc, refused_file(), "R11 NotUtf8 at byte 5")?;
-    holds(&rt, block, "a block");
-    holds(&rt, file, "a file");
+    for (refused, text) in [
+        (refused_block(), "Q1 Syntax at byte 19"),
+        (refused_file(), "R11 NotUtf8 at byte 5"),
+    ] {
+        let Err(fault) = refused else {
+            return Err(Fail::new("no fault"));
+        };
+        let told = format!(in rt.alloc(); "{fault}")?;
+        holds(&rt, told.as_str() == text, text);
+    }
     Ok(())
 }

@@ -21,16 +21,13 @@ LINE 2: step a { SELCT 1; }
                  ^
 ";
 
-/// Words, whether the file is typed, and what is said of it.
-const QUOTES: [(&[&str], bool, &str); 3] = [
-    (&[], false, QUOTED),
-    (&["--list"], false, QUOTED),
-    (&[], true, HINT_AND_QUOTED),
-];
-
 #[test]
 fn a_terminal_shows_the_line_that_is_refused(rt: HostRuntime) -> Result<(), AllocError> {
-    for (words, typed, text) in QUOTES {
+    for (words, typed, text) in [
+        ([].as_slice(), false, QUOTED),
+        (["--list"].as_slice(), false, QUOTED),
+        ([].as_slice(), true, HINT_AND_QUOTED),
+    ] {
         let mut input = Gives::new(REFUSED, usize::MAX);
         let run = served_there(&rt, rt.alloc(), words, &mut input, typed, ENDLESS)?;
         ends(&rt, &run, 1, "", text);

@@ -1,5 +1,4 @@
 pub mod BlockLemmas
-pub mod Blocking
 pub mod Freed
 pub mod Going
 pub mod Holding
@@ -7,4 +6,3 @@ pub mod Opening
 pub mod Replaying
 pub mod Stated
 pub mod Stepping
-pub mod Striking

@@ -109,16 +109,14 @@ pub const YIELDS: u64 = 1_000;
 /// it is told.
 #[derive(Drop)]
 pub struct Behind {
-    looks: u64,
     stepped: AtomicU64,
     waits: AtomicU64,
     told: AtomicU64,
 }
 
 impl Behind {
-    pub fn new(looks: u64) -> Behind {
+    pub fn new() -> Behind {
         Behind {
-            looks,
             stepped: AtomicU64::new(0),
             waits: AtomicU64::new(0),
             told: AtomicU64::new(0),
@@ -132,7 +130,7 @@ impl Behind {
 
 impl Gate for Behind {
     fn tries(&self) -> u64 {
-        self.looks
+        crate::gates::LOOKS
     }
 
     fn admits(&self, event: Event) -> bool {
