@@ -24,7 +24,7 @@ is_told() {
 says() {
   rm -f "$room/mark"
   status=0
-  timeout 120 env MARK="$room/mark" REFUSED="$2" LD_PRELOAD="$room/refuse.so" "$program" "$1" > "$room/said" 2>&1 || status=$?
+  timeout 120 env FEW_LOOKS=1 MARK="$room/mark" REFUSED="$2" LD_PRELOAD="$room/refuse.so" "$program" "$1" > "$room/said" 2>&1 || status=$?
 }
 
 # asks TEST NUMBER: whether the test asks for so many

@@ -1,6 +1,6 @@
 //! Gates that look at what the threads of other sessions do.
 
-use crate::gates::LOOKS;
+use crate::gates::comes;
 use session_machine::{Event, Reply};
 use session_threads::Gate;
 use std::sync::atomic::{AtomicU64, Ordering};
@@ -9,13 +9,15 @@ use std::thread::yield_now;
 /// Lets session 2 launch behind session 1, and session 1 step behind session 2.
 #[derive(Drop)]
 pub struct Crossed {
+    looks: u64,
     launched: AtomicU64,
     stepped: AtomicU64,
 }
 
 impl Crossed {
-    pub fn new() -> Crossed {
+    pub fn new(looks: u64) -> Crossed {
         Crossed {
+            looks,
             launched: AtomicU64::new(0),
             stepped: AtomicU64::new(0),
         }
@@ -24,7 +26,7 @@ impl Crossed {
 
 impl Gate for Crossed {
     fn tries(&self) -> u64 {
-        LOOKS
+        self.looks
     }
 
     fn admits(&self, event: Event) -> bool {
@@ -48,29 +50,25 @@ impl Gate for Crossed {
 /// Admits a step of session 1 or 2 once the other one asks for a step too.
 #[derive(Drop)]
 pub struct Handshake {
+    looks: u64,
     first: AtomicU64,
     second: AtomicU64,
 }
 
 impl Handshake {
-    pub fn new() -> Handshake {
+    pub fn new(looks: u64) -> Handshake {
         Handshake {
+            looks,
             first: AtomicU64::new(0),
             second: AtomicU64::new(0),
         }
     }
-}
 
-/// Says that one has come, and looks for the other.
-fn meets(own: &AtomicU64, other: &AtomicU64) -> bool {
-    own.store(1, Ordering::SeqCst);
-    for _ in 0..LOOKS {
-        if other.load(Ordering::SeqCst) == 1 {
-            return true;
-        }
-        yield_now();
+    /// Says that one has come, and looks for the other.
+    fn meets(&self, own: &AtomicU64, other: &AtomicU64) -> bool {
+        own.store(1, Ordering::SeqCst);
+        comes(other, 1, self.looks)
     }
-    false
 }
 
 impl Gate for Handshake {
@@ -80,8 +78,8 @@ impl Gate for Handshake {
 
     fn admits(&self, event: Event) -> bool {
         match event {
-            Event::Step { session: 1 } => meets(&self.first, &self.second),
-            Event::Step { session: 2 } => meets(&self.second, &self.first),
+            Event::Step { session: 1 } => self.meets(&self.first, &self.second),
+            Event::Step { session: 2 } => self.meets(&self.second, &self.first),
             _ => true,
         }
     }
@@ -92,13 +90,15 @@ impl Gate for Handshake {
 /// Admits a session's step once that of the next session was answered, up to the last session.
 #[derive(Drop)]
 pub struct Reversed {
+    looks: u64,
     /// The session whose step is admitted.
     turn: AtomicU64,
 }
 
 impl Reversed {
-    pub fn from_last(session: u32) -> Reversed {
+    pub fn from_last(session: u32, looks: u64) -> Reversed {
         Reversed {
+            looks,
             turn: AtomicU64::new(session as u64),
         }
     }
@@ -106,7 +106,7 @@ impl Reversed {
 
 impl Gate for Reversed {
     fn tries(&self) -> u64 {
-        LOOKS
+        self.looks
     }
 
     fn admits(&self, event: Event) -> bool {

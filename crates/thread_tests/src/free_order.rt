@@ -1,7 +1,7 @@
 //! That a free run's text is that of the run which the gate saw, and of no other.
 
 use crate::asking::{ROOM, holds};
-use crate::gates::LOOKS;
+use crate::gates::looks;
 use iso_lexer::FromStd;
 use permutations::free_spec;
 use session_machine::{Event, Reply};
@@ -15,14 +15,16 @@ use std::thread::{Threads, yield_now};
 /// Lets so many sessions launch from the last to the first, and then step in that order too: each event behind the one before.
 #[derive(Drop)]
 struct Backwards {
+    looks: u64,
     sessions: u64,
     launched: AtomicU64,
     stepped: AtomicU64,
 }
 
 impl Backwards {
-    fn of(sessions: u64) -> Backwards {
+    fn of(sessions: u64, looks: u64) -> Backwards {
         Backwards {
+            looks,
             sessions,
             launched: AtomicU64::new(0),
             stepped: AtomicU64::new(0),
@@ -37,7 +39,7 @@ impl Backwards {
 
 impl Gate for Backwards {
     fn tries(&self) -> u64 {
-        LOOKS
+        self.looks
     }
 
     fn admits(&self, event: Event) -> bool {
@@ -91,26 +93,26 @@ step a: statement 1
 
 ";
 
-/// What a run of these sessions prints under a gate that lets the last come first.
+/// What a run of a spec prints under this gate.
 fn told<R: Threads + Wait + Sync>(
     rt: &R,
     alloc: Global,
     spec: &str,
-    sessions: u64,
+    gate: &Backwards,
 ) -> Result<Vec<u8>, Fail> {
     let mut text = Vec::with_capacity(alloc, ROOM)?;
     let mut notes = Vec::with_capacity(alloc, ROOM)?;
     let mut input = FromStd::new(spec.as_bytes());
     let mut out = FromStd::new(&mut text);
     let mut noted = FromStd::new(&mut notes);
-    let gate = Backwards::of(sessions);
-    free_spec(rt, alloc, &mut input, &mut out, &mut noted, &gate)?;
+    free_spec(rt, alloc, &mut input, &mut out, &mut noted, gate)?;
     Ok(text)
 }
 
 #[test]
 fn a_free_run_is_told_as_it_came(rt: HostRuntime) -> Result<(), Fail> {
-    let text = told(&rt, rt.alloc(), THREE, 3)?;
+    let gate = Backwards::of(3, looks(&rt));
+    let text = told(&rt, rt.alloc(), THREE, &gate)?;
     holds(
         &rt,
         text.as_slice() == THREE_BACKWARDS.as_bytes(),

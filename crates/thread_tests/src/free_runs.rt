@@ -2,7 +2,7 @@
 
 use crate::asking::{but_wants, holds};
 use crate::free_gates::{Crossed, Handshake, Reversed};
-use crate::gates::{Meeting, Shut, Telling};
+use crate::gates::{Meeting, Shut, Telling, looks};
 use crate::telling::was_told;
 use row_versions::ListStore;
 use session_core::{EngineState, replays};
@@ -175,28 +175,31 @@ fn events_of(sessions: usize) -> usize {
 
 #[test]
 fn events_of_two_sessions_interleave(rt: HostRuntime) -> Result<(), Fail> {
-    let events = run_ones(&rt, rt.alloc(), 2, &Crossed::new())?;
+    let gate = Crossed::new(looks(&rt));
+    let events = run_ones(&rt, rt.alloc(), 2, &gate)?;
     holds(&rt, events == events_of(2), "events");
     Ok(())
 }
 
 #[test]
 fn two_workers_are_at_the_gate_at_once(rt: HostRuntime) -> Result<(), Fail> {
-    let events = run_ones(&rt, rt.alloc(), 2, &Handshake::new())?;
+    let gate = Handshake::new(looks(&rt));
+    let events = run_ones(&rt, rt.alloc(), 2, &gate)?;
     holds(&rt, events == events_of(2), "events");
     Ok(())
 }
 
 #[test]
 fn sessions_step_in_reverse_order(rt: HostRuntime) -> Result<(), Fail> {
-    let events = run_ones(&rt, rt.alloc(), 8, &Reversed::from_last(8))?;
+    let gate = Reversed::from_last(8, looks(&rt));
+    let events = run_ones(&rt, rt.alloc(), 8, &gate)?;
     holds(&rt, events == events_of(8), "events");
     Ok(())
 }
 
 #[test]
 fn sixty_four_workers_answer_at_once(rt: HostRuntime) -> Result<(), Fail> {
-    let gate = Meeting::of(64);
+    let gate = Meeting::of(64, looks(&rt));
     let events = run_ones(&rt, rt.alloc(), 64, &gate)?;
     holds(&rt, events == events_of(64), "events");
     holds(&rt, gate.met.load(Ordering::SeqCst) == 64, "met");

@@ -2,7 +2,7 @@
 
 use crate::asking::{ROOM, answer_but_wants, holds};
 use crate::free_gates::Handshake;
-use crate::gates::Meeting;
+use crate::gates::{Meeting, looks};
 use iso_lexer::FromStd;
 use permutations::{RunFault, free_spec};
 use session_threads::{Gate, OpenGate};
@@ -148,7 +148,7 @@ fn two_workers_of_a_file_are_at_the_gate_at_once(rt: HostRuntime) -> Result<(), 
         &rt,
         rt.alloc(),
         "session s step a { SELECT 1; } session u step b { SELECT 1; }",
-        &Handshake::new(),
+        &Handshake::new(looks(&rt)),
     )?;
     holds(&rt, wrote.answer.is_ok(), "ends");
     Ok(())
@@ -156,7 +156,7 @@ fn two_workers_of_a_file_are_at_the_gate_at_once(rt: HostRuntime) -> Result<(), 
 
 #[test]
 fn all_workers_of_a_file_answer_at_once(rt: HostRuntime) -> Result<(), Fail> {
-    let gate = Meeting::of(8);
+    let gate = Meeting::of(8, looks(&rt));
     let wrote = free(
         &rt,
         rt.alloc(),

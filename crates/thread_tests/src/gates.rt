@@ -3,15 +3,28 @@
 use crate::signs::{session_of, sign_of};
 use session_machine::{Event, Reply};
 use session_threads::Gate;
+use std::env::{Env, FillError};
 use std::sync::atomic::{AtomicU64, Ordering};
 use std::thread::yield_now;
 
-/// How often a thread looks for the others.
-pub const LOOKS: u64 = 100_000_000;
+/// So many looks that the others come, however loaded the machine is.
+const MANY: u64 = 100_000_000;
 
-/// Looks until the number is there. Says whether it came.
-pub fn comes(number: &AtomicU64, wanted: u64) -> bool {
-    for _ in 0..LOOKS {
+/// Enough looks where few other programs run.
+const FEW: u64 = 1_000_000;
+
+/// How often a thread looks for the others before it gives up. bench/allocations.sh sets FEW_LOOKS: where it has an allocation
+/// refused, the others may never come.
+pub fn looks(rt: &impl Env) -> u64 {
+    match rt.var("FEW_LOOKS", &mut [0; 8]) {
+        Err(FillError::NotPresent) => MANY,
+        _ => FEW,
+    }
+}
+
+/// Looks so often until the number is there. Says whether it came.
+pub fn comes(number: &AtomicU64, wanted: u64, looks: u64) -> bool {
+    for _ in 0..looks {
         if number.load(Ordering::SeqCst) == wanted {
             return true;
         }
@@ -24,14 +37,16 @@ pub fn comes(number: &AtomicU64, wanted: u64) -> bool {
 #[derive(Drop)]
 pub struct Meeting {
     pub all: u64,
+    pub looks: u64,
     pub came: AtomicU64,
     pub met: AtomicU64,
 }
 
 impl Meeting {
-    pub fn of(all: u64) -> Meeting {
+    pub fn of(all: u64, looks: u64) -> Meeting {
         Meeting {
             all,
+            looks,
             came: AtomicU64::new(0),
             met: AtomicU64::new(0),
         }
@@ -50,7 +65,7 @@ impl Gate for Meeting {
     fn answered(&self, event: Event, _reply: &Reply<'_>) {
         if let Event::Step { .. } = event {
             self.came.fetch_add(1, Ordering::SeqCst);
-            if comes(&self.came, self.all) {
+            if comes(&self.came, self.all, self.looks) {
                 self.met.fetch_add(1, Ordering::SeqCst);
             }
         }

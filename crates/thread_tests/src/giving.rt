@@ -109,14 +109,16 @@ pub const YIELDS: u64 = 1_000;
 /// it is told.
 #[derive(Drop)]
 pub struct Behind {
+    looks: u64,
     stepped: AtomicU64,
     waits: AtomicU64,
     told: AtomicU64,
 }
 
 impl Behind {
-    pub fn new() -> Behind {
+    pub fn new(looks: u64) -> Behind {
         Behind {
+            looks,
             stepped: AtomicU64::new(0),
             waits: AtomicU64::new(0),
             told: AtomicU64::new(0),
@@ -130,7 +132,7 @@ impl Behind {
 
 impl Gate for Behind {
     fn tries(&self) -> u64 {
-        crate::gates::LOOKS
+        self.looks
     }
 
     fn admits(&self, event: Event) -> bool {

@@ -1,7 +1,7 @@
 //! Runs of spec files whose gates tell how many threads there are, and what a DELETE that waits prints.
 
 use crate::asking::holds;
-use crate::gates::{Meeting, Shut};
+use crate::gates::{Meeting, Shut, looks};
 use crate::run_faults::{ends_at_the_gate, run};
 use session_threads::OpenGate;
 use std::sync::atomic::{AtomicU64, Ordering};
@@ -16,7 +16,7 @@ permutation a1 a2 a3 a4 a5 a6 a7 a8";
 
 #[test]
 fn all_workers_answer_at_once(rt: HostRuntime) -> Result<(), Fail> {
-    let gate = Meeting::of(8);
+    let gate = Meeting::of(8, looks(&rt));
     let ran = run(&rt, rt.alloc(), EIGHT, &gate)?;
     holds(&rt, ran.answer.is_ok(), "the run ends");
     holds(&rt, gate.met.load(Ordering::SeqCst) == 8, "eight met");

@@ -2,6 +2,7 @@
 
 use crate::asking::{but_wants, holds};
 use crate::free_runs::blocks;
+use crate::gates::looks;
 use crate::giving::{Behind, Counting, Starved, Twice};
 use crate::signs::session_of;
 use row_versions::ListStore;
@@ -144,7 +145,7 @@ fn a_free_run_ends_where_the_engine_refuses(rt: HostRuntime) -> Result<(), Fail>
     let alloc = rt.alloc();
     let blocks = blocks(alloc, 4, &TEXTS)?;
     let plan = plan_of(alloc, &[1, NO_BLOCK], &[2])?;
-    let gate = Behind::new();
+    let gate = Behind::new(looks(&rt));
     let fault = but_wants(free(&rt, alloc, &blocks, &plan, &gate).err())?;
     let expected = ThreadFault::Engine(EngineFault::BlockNotAllowed);
     holds(&rt, fault == Some(expected), "a block that isn't there");

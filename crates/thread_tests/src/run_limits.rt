@@ -1,13 +1,14 @@
 //! How many permutations of a file run, and how many at a time, by what a gate sees.
 
 use crate::asking::{ROOM, answer_but_wants, holds};
-use crate::gates::comes;
+use crate::gates::{comes, looks};
 use crate::run_faults::run;
 use iso_lexer::FromStd;
 use permutations::run_spec;
 use session_machine::{Event, Reply};
 use session_threads::Gate;
 use std::alloc::Global;
+use std::process::Abort;
 use std::sync::Wait;
 use std::sync::atomic::{AtomicU64, Ordering};
 use std::test::Fail;
@@ -70,6 +71,7 @@ fn no_more_permutations_run_than_the_limit(rt: HostRuntime) -> Result<(), Fail> 
 /// Lets a permutation's launch go on once that of the other is asked for too.
 #[derive(Drop)]
 struct Pair {
+    looks: u64,
     asked: AtomicU64,
     met: AtomicU64,
 }
@@ -82,7 +84,7 @@ impl Gate for Pair {
     fn admits(&self, event: Event) -> bool {
         if let Event::Launch { .. } = event {
             self.asked.fetch_add(1, Ordering::SeqCst);
-            if comes(&self.asked, 2) {
+            if comes(&self.asked, 2, self.looks) {
                 self.met.fetch_add(1, Ordering::SeqCst);
             }
         }
@@ -95,14 +97,23 @@ impl Gate for Pair {
 /// Two permutations of one launch each.
 const TWO: &str = "session s step a { } session t step b { } permutation a permutation b";
 
-#[test]
-fn permutations_run_side_by_side(rt: HostRuntime) -> Result<(), Fail> {
+/// Runs both. Says whether each was there while the other was.
+fn meet<R: Threads + Wait + Sync + Abort>(rt: &R, alloc: Global, looks: u64) -> Result<bool, Fail> {
     let gate = Pair {
+        looks,
         asked: AtomicU64::new(0),
         met: AtomicU64::new(0),
     };
-    let ran = run(&rt, rt.alloc(), TWO, &gate)?;
-    holds(&rt, ran.answer.is_ok(), "the run ends");
-    holds(&rt, gate.met.load(Ordering::SeqCst) == 2, "both were there");
+    let ran = run(rt, alloc, TWO, &gate)?;
+    holds(rt, ran.answer.is_ok(), "the run ends");
+    Ok(gate.met.load(Ordering::SeqCst) == 2)
+}
+
+/// Where a thread is refused to one of them, they run one after the other.
+#[test]
+fn permutations_run_side_by_side(rt: HostRuntime) -> Result<(), Fail> {
+    let looks = looks(&rt);
+    let met = meet(&rt, rt.alloc(), looks)? || meet(&rt, rt.alloc(), looks)?;
+    holds(&rt, met, "both were there");
     Ok(())
 }

@@ -2,7 +2,7 @@
 
 use crate::asking::holds;
 use crate::free_runs::blocks;
-use crate::gates::comes;
+use crate::gates::{comes, looks};
 use crate::giving::YIELDS;
 use crate::refused::{NO_BLOCK, QUERY, TEXTS, directed, free, plan_of};
 use crate::signs::session_of;
@@ -18,6 +18,7 @@ use std::thread::{Threads, yield_now};
 /// Lets session 1 go on once session 2 asks, and refuses session 2 long after that.
 #[derive(Drop)]
 struct Late {
+    looks: u64,
     first: AtomicU64,
     second: AtomicU64,
 }
@@ -30,13 +31,13 @@ impl Gate for Late {
     fn admits(&self, event: Event) -> bool {
         match session_of(event) {
             1 => {
-                let came = comes(&self.second, 1);
+                let came = comes(&self.second, 1, self.looks);
                 self.first.store(1, Ordering::SeqCst);
                 came
             }
             _ => {
                 self.second.store(1, Ordering::SeqCst);
-                comes(&self.first, 1);
+                comes(&self.first, 1, self.looks);
                 for _ in 0..YIELDS {
                     yield_now();
                 }
@@ -54,8 +55,10 @@ fn tells_the_engines<R: Threads + Wait + Sync>(
     alloc: Global,
     blocks: &[Block<'_>],
     plan: &FreePlan,
+    looks: u64,
 ) -> bool {
     let gate = Late {
+        looks,
         first: AtomicU64::new(0),
         second: AtomicU64::new(0),
     };
@@ -73,7 +76,7 @@ fn of_two_faults_in_threads_the_first_is_told(rt: HostRuntime) -> Result<(), Fai
     let plan = plan_of(alloc, &[NO_BLOCK], &[3])?;
     let mut told = 0u64;
     for _ in 0..RUNS {
-        if tells_the_engines(&rt, alloc, &blocks, &plan) {
+        if tells_the_engines(&rt, alloc, &blocks, &plan, looks(&rt)) {
             told = told.wrapping_add(1);
         }
     }
