@@ -26,12 +26,13 @@ const MOST_AT_A_TIME: usize = 4;
 
 const MOST_THREADS: usize = 40;
 
-/// How many permutations one crew serves, at most, by one or two crews, and at least where so many are left: each thread that is
-/// started takes time, and what wakes one serves many.
+/// How many permutations one crew serves, at most: each thread that is started takes time, and what wakes one serves many.
 const MOST_TOGETHER: usize = 64;
 
+/// So many at most where one or two crews run.
 const FEW_TOGETHER: usize = 32;
 
+/// No crew is given fewer where so many are left.
 const LEAST_TOGETHER: usize = 8;
 
 /// How many processors there are for the threads; one where nobody can tell.
