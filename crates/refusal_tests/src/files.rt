@@ -23,7 +23,7 @@ permutation u d c r
 ";
 
 /// More permutations than any of the files has.
-pub const MOST: u64 = 1_000;
+const MOST: u64 = 1_000;
 
 /// Runs a file in given orders.
 pub fn run<S: Source, W: Sink, N: Sink, R: Threads + Wait + Sync>(
