@@ -179,6 +179,10 @@ impl Versions for ChainStore {
         self.list.has_committed(tx)
     }
 
+    fn open_txs(&self) -> &[TxId] {
+        self.list.open_txs()
+    }
+
     fn committed(&self) -> u64 {
         self.list.committed()
     }

@@ -3,3 +3,4 @@ pub mod Seeing
 pub mod Filtered
 pub mod Shown
 pub mod Last
+pub mod OpenTxs

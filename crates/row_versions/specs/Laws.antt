@@ -1,13 +1,15 @@
 -- What follows from the definitions, in the words of transactions and rows. Each law stands on the contract of a function of `laws`.
-use Rattle.std.specs.Prelude.{◌≡◌, ◌≢◌, ◌↔◌, ◌⊎◌, ℕ, ◌+◌, ◌<◌, ◌≤◌, false, length, AllPairs, Contains, IsTrue, IsSome, Some, None, slice_get}
+use Rattle.std.specs.Prelude.{◌≡◌, ◌≢◌, ◌↔◌, ◌⊎◌, ℕ, ◌+◌, ◌<◌, ◌≤◌, false, length, AllPairs, Contains, List, IsTrue, IsSome, Some, None, slice_get}
 use Rattle.row_versions.specs.declared.names.TxId.{TxId}
 use Rattle.row_versions.specs.declared.names.RowId.{RowId}
 use Rattle.row_versions.specs.declared.names.TableId.{TableId}
 use Rattle.row_versions.specs.declared.write.Write.{Write}
 use Rattle.row_versions.specs.declared.write.View.{View}
 use Rattle.row_versions.specs.declared.write.Seen.{Seen}
+use Rattle.row_versions.specs.declared.write.Fate.{Fate}
 use Rattle.row_versions.specs.declared.write.Fate.TheVariants.{RolledBack, Committed}
-use Rattle.row_versions.specs.Log.{Content, IsOpen, fate_of, has_committed, commit_count, new_row, after_begin, after_commit, after_roll_back, after_write}
+use Rattle.row_versions.specs.Log.{Content, IsOpen, fate_of, has_committed, commit_count, open_in, is_open, new_row, after_begin, after_commit, after_roll_back, after_write}
+use Rattle.row_versions.specs.Members.{has, is_distinct}
 use Rattle.row_versions.specs.View.{sees}
 use Rattle.row_versions.specs.Rows.{rows_of}
 use Rattle.row_versions.specs.Newest.{newest_of}
@@ -109,3 +111,7 @@ RowsAreNamed c = (place : ℕ) (w : Write) → IsAt c place w → w.row.0 ≤ pl
 -- a new row is the row of no write before
 abbrev pub NewRowsAreNew : Type 0
 NewRowsAreNew = (c : Content) → RowsAreNamed c → (place : ℕ) (w : Write) → IsAt c place w → w.row ≢ new_row c
+
+-- the listed transactions are those that are open, and none comes twice
+abbrev pub OpenTxsAreTheOpen : Type 0
+OpenTxsAreTheOpen = (fates : List Fate) → is_distinct (open_in fates) × ((tx : TxId) → has (open_in fates) tx ≡ is_open fates tx)

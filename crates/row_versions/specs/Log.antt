@@ -1,5 +1,6 @@
 -- To be believed. The log of all writes, and the fates of transactions.
-use Rattle.std.specs.Prelude.{◌≡◌, ℕ, Bool, true, false, List, [], ◌∷◌, ◌++◌, length, Option, Some, slice_get, slice_set, count_by, option_and_then}
+use Rattle.std.specs.Prelude.{◌≡◌, ℕ, Bool, true, false, List, [], ◌∷◌, ◌++◌, length, Option, Some, slice_get, slice_set, count_by, option_and_then, map, filter}
+use Rattle.std.specs.List.{enumerate_from}
 use Rattle.std.specs.Option.{option_map_or}
 use Rattle.sql_values.specs.declared.value.Value.{Value}
 use Rattle.row_versions.specs.declared.names.TxId.{TxId}
@@ -32,6 +33,10 @@ is_open_fate fate = elim fate [ Some Open ↦ true | other ↦ false ]
 -- the transaction has begun and has not ended, as a test
 abbrev pub is_open : List Fate → TxId → Bool
 is_open fates tx = is_open_fate (fate_of fates tx)
+
+-- the transactions that have begun and have not ended, in the order in which they began
+abbrev pub open_in : List Fate → List TxId
+open_in fates = map (λ (e : ℕ × Fate). record { 0 = e.0 }) (filter (λ e. is_open_fate (Some e.1)) (enumerate_from 0 fates))
 
 -- it is the fate of a transaction that has committed
 abbrev pub is_commit : Fate → Bool

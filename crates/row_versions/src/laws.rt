@@ -1,5 +1,5 @@
 //! Laws of views, rows and versions: each function's contract is one of them, and its body does nothing.
-ghost use Rattle.row_versions.specs.Laws.{ViewSeesCommittedAndOwn, RowsAreTheShown, RowsFollowTheLog, EachRowOnce, OpenWritesOfOthersUnseen, OwnWritesSeen, RolledBackWritesUnseen, ViewsStay, LaterViewsSeeACommit, NewestIsTheLast, NewRowsAreNew};
+ghost use Rattle.row_versions.specs.Laws.{ViewSeesCommittedAndOwn, RowsAreTheShown, RowsFollowTheLog, EachRowOnce, OpenWritesOfOthersUnseen, OwnWritesSeen, RolledBackWritesUnseen, ViewsStay, LaterViewsSeeACommit, NewestIsTheLast, NewRowsAreNew, OpenTxsAreTheOpen};
 
 /// A view sees exactly what was committed before it and its own transaction's earlier commands.
 pub fn view_sees_committed_and_own()
@@ -54,4 +54,9 @@ pub fn newest_is_the_last()
 /// A new row is the row of no earlier write.
 pub fn new_rows_are_new()
     ensures { NewRowsAreNew }
+{}
+
+/// The transactions that a store lists as open are those that are open, and none comes twice.
+pub fn open_txs_are_the_open()
+    ensures { OpenTxsAreTheOpen }
 {}

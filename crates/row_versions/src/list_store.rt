@@ -1,8 +1,9 @@
 //! A store that keeps the log as one plain list.
-ghost use Rattle.std.specs.Prelude.{◌≡◌, ◌↔◌, IfOk, IsTrue, Some, ◌+◌};
+ghost use Rattle.std.specs.Prelude.{◌≡◌, ◌↔◌, ◌<◌, ◌∷◌, ◌++◌, [], IfOk, IsTrue, Some, ◌+◌, filter, not, vec_len, vec_capacity};
 ghost use Rattle.std.specs.List.{list_any};
 ghost use Rattle.row_versions.specs.declared.write.Fate.TheVariants.{RolledBack};
 ghost use Rattle.row_versions.specs.Log.{Content, empty_content, fate_of};
+ghost use Rattle.row_versions.specs.Members.{same_tx};
 ghost use Rattle.row_versions.specs.View.{sees};
 ghost use Rattle.row_versions.specs.Inner.Searching.{replaces, shows, rows_from, is_version, newest_from};
 
@@ -19,17 +20,19 @@ pub struct ListStore {
     log: Vec<Write>,
     fates: Vec<Fate>,
     commits: u64,
+    /// The transactions that are open.
+    open_txs: Vec<TxId>,
 }
 
 impl Model for ListStore {
     ghost use Rattle.std.specs.Prelude.{◌≡◌, count_by};
-    ghost use Rattle.row_versions.specs.Log.{Content, is_commit};
+    ghost use Rattle.row_versions.specs.Log.{Content, is_commit, open_in};
 
     ghost Value = { Content };
 
     ghost view = { λ s. record { log = s.log.items; fates = s.fates.items } };
 
-    ghost invariant = { λ s. s.commits ≡ count_by is_commit s.fates.items };
+    ghost invariant = { λ s. (s.commits ≡ count_by is_commit s.fates.items) × (s.open_txs.items ≡ open_in s.fates.items) };
 }
 
 impl ListStore {
@@ -41,6 +44,7 @@ impl ListStore {
             log: Vec::new(alloc),
             fates: Vec::new(alloc),
             commits: 0,
+            open_txs: Vec::new(alloc),
         }
     }
 
@@ -139,24 +143,41 @@ fn newest_version(log: &[Write], fates: &[Fate], row: RowId, tx: TxId) -> Option
     newest
 }
 
+/// The transaction joins the list, which has room.
+fn join(txs: &mut Vec<TxId>, tx: TxId)
+    requires { vec_len txs.old < vec_capacity txs.old }
+    ensures { txs.new.items ≡ txs.old.items ++ tx ∷ [] }
+{
+    txs.push(tx).unwrap();
+}
+
+/// The transaction leaves the list.
+fn leave(txs: &mut Vec<TxId>, tx: TxId)
+    ensures { txs.new.items ≡ filter (λ other. not (same_tx other tx)) txs.old.items }
+{
+    txs.retain(|other| other.0 != tx.0);
+}
+
 impl Versions for ListStore {
     ghost content = { λ s. s };
 
     fn begin(&mut self) -> Result<TxId, AllocError> {
         let tx = TxId(self.fates.len() as u64);
+        self.open_txs.reserve(1)?;
         self.fates.push(Fate::Open)?;
+        join(&mut self.open_txs, tx);
         Ok(tx)
     }
 
-    #[tactic(auto, using(crate::proofs::Seeing::count_committed))]
     fn commit(&mut self, tx: TxId) {
         self.fates[tx.0 as usize] = Fate::Committed(self.commits);
         self.commits += 1;
+        leave(&mut self.open_txs, tx);
     }
 
-    #[tactic(auto, using(crate::proofs::Seeing::count_rolled_back))]
     fn roll_back(&mut self, tx: TxId) {
         self.fates[tx.0 as usize] = Fate::RolledBack;
+        leave(&mut self.open_txs, tx);
     }
 
     fn write(
@@ -197,6 +218,10 @@ impl Versions for ListStore {
 
     fn has_committed(&self, tx: TxId) -> bool {
         matches!(self.fates.get(tx.0 as usize), Some(Fate::Committed(_)))
+    }
+
+    fn open_txs(&self) -> &[TxId] {
+        &self.open_txs
     }
 
     fn committed(&self) -> u64 {

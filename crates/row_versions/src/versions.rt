@@ -1,7 +1,7 @@
 //! What a store of versions does, whichever way it keeps them.
 ghost use Rattle.std.specs.Prelude.{◌≡◌, IfOk, OnOk, OnErr, IfErr, unwrap_or};
 ghost use Rattle.std.specs.Option.{option_copied};
-ghost use Rattle.row_versions.specs.Log.{Content, commit_count, IsOpen, after_begin, after_commit, after_roll_back, after_write, has_committed, next_tx, new_row, values_at};
+ghost use Rattle.row_versions.specs.Log.{Content, commit_count, IsOpen, after_begin, after_commit, after_roll_back, after_write, has_committed, next_tx, new_row, open_in, values_at};
 ghost use Rattle.row_versions.specs.Rows.{rows_of};
 ghost use Rattle.row_versions.specs.Newest.{newest_of};
 
@@ -65,6 +65,10 @@ pub trait Versions: Drop {
     /// Whether the transaction has committed. It takes no memory.
     fn has_committed(&self, tx: TxId) -> bool
         ensures { result ≡ has_committed (content self.now) tx };
+
+    /// The transactions that are open, in the order in which they began. It takes no memory.
+    fn open_txs(&self) -> &[TxId]
+        ensures { result.now ≡ open_in (content self.now).fates };
 
     /// How many transactions have committed, which is the number of the next commit. It takes no memory.
     fn committed(&self) -> u64

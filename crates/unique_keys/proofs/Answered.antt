@@ -1,6 +1,6 @@
 -- From who stands in the way to what is found of a key.
-use Rattle.std.proofs.Common.{◌≡◌, refl, sym, ◌∙◌, ap, subst, Bool, true, false, cond, not, ◌||◌, ℕ, List, [], ◌∷◌, map, filter}
-use Rattle.std.specs.Prelude.{Option, Some, None, option_and_then, Result, Ok, Err, IfOk}
+use Rattle.std.proofs.Common.{◌≡◌, ◌≢◌, refl, sym, ◌∙◌, ap, subst, Bool, true, false, not, ◌&&◌, ℕ, List, [], ◌∷◌, filter}
+use Rattle.std.specs.Prelude.{Option, Some, None, option_and_then, Result, Ok, Err, IfOk, OnErr}
 use Rattle.std.specs.List.{list_any}
 use Rattle.sql_values.specs.declared.value.Value.{Value}
 use Rattle.row_versions.specs.declared.names.TxId.{TxId}
@@ -8,39 +8,44 @@ use Rattle.row_versions.specs.declared.names.RowId.{RowId}
 use Rattle.row_versions.specs.declared.names.TableId.{TableId}
 use Rattle.row_versions.specs.declared.write.Seen.{Seen}
 use Rattle.row_versions.specs.Newest.{newest_of}
-use Rattle.row_versions.specs.Log.{Content, IsOpen, has_committed}
+use Rattle.row_versions.specs.Log.{Content, IsOpen, has_committed, is_open, open_in}
+use Rattle.row_versions.proofs.OpenTxs.{has_open, open_once}
 use Rattle.unique_keys.specs.declared.noted.Noted.{Noted}
 use Rattle.unique_keys.specs.declared.key_index.Found.{Found}
 use Rattle.unique_keys.specs.declared.key_index.Found.TheVariants as found
 use Rattle.unique_keys.specs.Members.{EachOnce}
-use Rattle.row_versions.specs.Members.{is_none_of}
+use Rattle.row_versions.specs.Members.{has, is_none_of}
 use Rattle.unique_keys.specs.Keys.{Keys, columns_of_key}
 use Rattle.unique_keys.specs.Writes.{IsUpToDate}
-use Rattle.unique_keys.specs.Inner.Finding.{is_in_way, blockers_among, taker_among}
+use Rattle.unique_keys.specs.Inner.Finding.{blockers_among, is_blocker, taker_among}
 use Rattle.unique_keys.specs.Checks.{KeyIsHeld, KeyIsTaken, FindsKey, NamesBlockers, key_blockers, taken_by, found_by, found_of, key_found}
 use Rattle.unique_keys.proofs.Exact.{blockers_same, taken_same}
+use Rattle.unique_keys.proofs.Standing.{any_is_some, blocker_is, passing_once}
 
--- some write passes the test where some transaction is found by it
-any_found : (p : Noted → Bool) (ws : List Noted) → list_any p ws ≡ not (is_none_of (map (λ (w : Noted). w.tx) (filter p ws)))
-any_found p [] = refl
-any_found p (w ∷ ws) = step (p w) (any_found p ws) where
-  step : (b : Bool) → list_any p ws ≡ not (is_none_of (map (λ (v : Noted). v.tx) (filter p ws))) → (b || list_any p ws) ≡ not (is_none_of (map (λ (v : Noted). v.tx) (cond b (w ∷ filter p ws) (filter p ws))))
-  step true ih = refl
-  step false ih = ih
+-- the blockers are those of the open transactions that stand in the way by the index
+blocks : (c : Content) (index notes : List Noted) (table : TableId) (tx : TxId) (asked : List Value) (columns : List ℕ) → notes ≡ index → IsUpToDate index c → (u : TxId)
+    → has (key_blockers c table tx asked columns) u ≡ (is_blocker (has_committed c) notes table columns asked tx u && has (open_in c.fates) u)
+blocks c index notes table tx asked columns e up u =
+    ap (λ us. has us u) (sym (ap (λ ws. blockers_among (has_committed c) (is_open c.fates) ws table tx asked columns) e ∙ blockers_same c index up table tx asked columns))
+    ∙ blocker_is (has_committed c) (is_open c.fates) notes table columns asked tx u ∙ ap (λ b. is_blocker (has_committed c) notes table columns asked tx u && b) (sym (has_open c.fates u))
 
--- whether a write of the index stands in the way is whether somebody blocks
+-- whether one of them does is whether somebody blocks
 pub held_by_some : (c : Content) (index notes : List Noted) (table : TableId) (tx : TxId) (asked : List Value) (columns : List ℕ) → notes ≡ index → IsUpToDate index c
-    → list_any (is_in_way (has_committed c) (λ u. not (has_committed c u)) notes table columns asked tx) notes ≡ not (is_none_of (key_blockers c table tx asked columns))
+    → list_any (is_blocker (has_committed c) notes table columns asked tx) (open_in c.fates) ≡ not (is_none_of (key_blockers c table tx asked columns))
 held_by_some c index notes table tx asked columns e up =
-    any_found (is_in_way (has_committed c) (λ u. not (has_committed c u)) notes table columns asked tx) notes
-    ∙ ap (λ v. not (is_none_of (blockers_among (has_committed c) (λ u. not (has_committed c u)) v table tx asked columns))) e
-    ∙ ap (λ v. not (is_none_of v)) (blockers_same c index up table tx asked columns)
+    any_is_some (is_blocker (has_committed c) notes table columns asked tx) (key_blockers c table tx asked columns) (open_in c.fates) (blocks c index notes table tx asked columns e up)
 
 -- who is found in the index is who blocks
 pub blockers_here : (c : Content) (index notes : List Noted) (table : TableId) (tx : TxId) (asked : List Value) (columns : List ℕ) (found : List TxId) → notes ≡ index
-    → EachOnce (blockers_among (has_committed c) (λ u. not (has_committed c u)) notes table tx asked columns) found → IsUpToDate index c → EachOnce (key_blockers c table tx asked columns) found
-blockers_here c index notes table tx asked columns found e once up =
-    subst (λ v. EachOnce v found) (ap (λ v. blockers_among (has_committed c) (λ u. not (has_committed c u)) v table tx asked columns) e ∙ blockers_same c index up table tx asked columns) once
+    → found ≡ filter (is_blocker (has_committed c) notes table columns asked tx) (open_in c.fates) → IsUpToDate index c → EachOnce (key_blockers c table tx asked columns) found
+blockers_here c index notes table tx asked columns found e is up =
+    passing_once (is_blocker (has_committed c) notes table columns asked tx) (key_blockers c table tx asked columns) (open_in c.fates) found (blocks c index notes table tx asked columns e up) (open_once c.fates) is
+
+-- where one of them does, somebody blocks
+pub some_block : (c : Content) (index notes : List Noted) (table : TableId) (tx : TxId) (asked : List Value) (columns : List ℕ) → notes ≡ index
+    → list_any (is_blocker (has_committed c) notes table columns asked tx) (open_in c.fates) ≡ true → IsUpToDate index c → key_blockers c table tx asked columns ≢ []
+some_block c index notes table tx asked columns e some up =
+    λ none. let k : false ≡ true = sym (ap (λ us. not (is_none_of us)) none) ∙ sym (held_by_some c index notes table tx asked columns e up) ∙ some in cc
 
 some_found : (by : List TxId) (taken : Option Seen) (b : Bool) → b ≡ not (is_none_of by) → b ≡ true → found_by by taken ≡ KeyIsHeld
 some_found [] taken true e h = cc
@@ -102,3 +107,7 @@ finds_here c tx except t asked lent table columns f key e1 e2 e3 found names =
 pub ok_more : {A E : Type 0} (r : Result A E) (P Q : A → Type 0) → ((x : A) → P x → Q x) → IfOk r P → IfOk r Q
 ok_more (Ok x) P Q f h = f x h
 ok_more (Err e) P Q f h = tt
+
+pub err_more : {A E : Type 0} (r : Result A E) (P Q : Type 0) → (P → Q) → OnErr r P → OnErr r Q
+err_more (Ok x) P Q f h = tt
+err_more (Err e) P Q f h = f h

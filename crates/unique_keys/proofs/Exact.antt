@@ -1,16 +1,14 @@
 -- What an index that is up to date finds is what the log says.
 use Rattle.std.proofs.Common.{◌≡◌, refl, sym, ◌∙◌, ap, subst, Bool, true, false, not, ◌||◌, ◌&&◌, ◌==◌, ℕ, List, map, filter}
 use mathlib.Core.Path.{fun_ext}
-use Rattle.std.specs.Prelude.{Option, Some, None, find, option_and_then}
+use Rattle.std.specs.Prelude.{Option, find, option_and_then}
 use Rattle.sql_values.specs.declared.value.Value.{Value}
 use Rattle.row_versions.specs.declared.names.TxId.{TxId}
 use Rattle.row_versions.specs.declared.names.RowId.{RowId}
 use Rattle.row_versions.specs.declared.names.TableId.{TableId}
 use Rattle.row_versions.specs.declared.write.Fate.{Fate}
-use Rattle.row_versions.specs.declared.write.Fate.TheVariants.{Open, RolledBack, Committed}
-use Rattle.row_versions.specs.Log.{Content, IsOpen, fate_of, has_committed, is_open, is_open_fate}
+use Rattle.row_versions.specs.Log.{Content, IsOpen, has_committed, is_open, is_open_fate}
 use Rattle.row_versions.specs.Newest.{newest_of}
-use Rattle.row_versions.specs.Inner.Searching.{is_committed}
 use Rattle.unique_keys.specs.declared.noted.Noted.{Noted}
 use Rattle.row_versions.specs.Members.{same_tx}
 use Rattle.unique_keys.specs.Keys.{has_key}
@@ -20,13 +18,6 @@ use Rattle.unique_keys.specs.Checks.{key_blockers, taken_by}
 use Rattle.unique_keys.proofs.Filtered.{list_any-filter, find-filter, filter-filter, last_of-filter}
 use Rattle.unique_keys.proofs.Listed.{same_is}
 use Rattle.unique_keys.proofs.Logged.{blockers_are, taken_is, taker_is}
-
--- whoever stands and hasn't committed is open
-open_or_committed : (f : Option Fate) → (is_open_fate f || is_committed f) ≡ true → not (is_committed f) ≡ is_open_fate f
-open_or_committed None h = cc
-open_or_committed (Some Open) h = refl
-open_or_committed (Some RolledBack) h = cc
-open_or_committed (Some (Committed k)) h = refl
 
 and_left : (a b : Bool) → (a && b) ≡ true → a ≡ true
 and_left true b h = refl
@@ -47,12 +38,12 @@ or_right false b h = h
 open_is : (fates : List Fate) (a b : TxId) → same_tx a b ≡ true → is_open fates b ≡ true → is_open fates a ≡ true
 open_is fates a b e h = subst (λ t. is_open fates t ≡ true) (sym (same_is a b e)) h
 
--- both parts are the same where the transaction is active, and else both are false
-while_active : (t n one other : Bool) (z y : Bool) → one ≡ other → (other ≡ true → z ≡ y) → ((t && (n && one)) && z) ≡ ((t && (n && other)) && y)
-while_active t n one true z y e h = ap (λ v. (t && (n && v)) && z) e ∙ ap (λ v. (t && (n && true)) && v) (h refl)
-while_active true true one false z y e h = ap (λ v. v && z) e
-while_active true false one false z y e h = refl
-while_active false n one false z y e h = refl
+-- a part that is the same where the transaction is active, and else doesn't matter
+while_active : (t n active : Bool) (z y : Bool) → (active ≡ true → z ≡ y) → ((t && (n && active)) && z) ≡ ((t && (n && active)) && y)
+while_active t n true z y h = ap (λ v. (t && (n && true)) && v) (h refl)
+while_active true true false z y h = refl
+while_active true false false z y h = refl
+while_active false n false z y h = refl
 
 counts_stands : (c : Content) (tx : TxId) → IsOpen c tx → (w : Noted) → counts_for (has_committed c) tx w ≡ true → stands c.fates w ≡ true
 counts_stands c tx h w k = cases (has_committed c w.tx) refl k where
@@ -101,20 +92,20 @@ own_same c columns asked row u h =
     (λ v k. or_left (is_open c.fates v.tx) (has_committed c v.tx) (open_is c.fates v.tx u (and_right (v.row.0 == row.0) (same_tx v.tx u) (and_left ((v.row.0 == row.0) && same_tx v.tx u) (has_key columns asked v.values) k)) h))
     (writes c)
 
--- a write that stands is in the way by the index where it is by the log
-way_same : (c : Content) (table : TableId) (tx : TxId) (asked : List Value) (columns : List ℕ) (w : Noted) → stands c.fates w ≡ true
-    → is_in_way (has_committed c) (λ u. not (has_committed c u)) (filter (stands c.fates) (writes c)) table columns asked tx w ≡ is_in_way (has_committed c) (is_open c.fates) (writes c) table columns asked tx w
-way_same c table tx asked columns w s =
-    while_active (w.table.0 == table.0) (not (same_tx w.tx tx)) (not (has_committed c w.tx)) (is_open c.fates w.tx) _ _ (open_or_committed (fate_of c.fates w.tx) s)
+-- a write is in the way by the index where it is by the log
+way_same : (c : Content) (table : TableId) (tx : TxId) (asked : List Value) (columns : List ℕ) (w : Noted)
+    → is_in_way (has_committed c) (is_open c.fates) (filter (stands c.fates) (writes c)) table columns asked tx w ≡ is_in_way (has_committed c) (is_open c.fates) (writes c) table columns asked tx w
+way_same c table tx asked columns w =
+    while_active (w.table.0 == table.0) (not (same_tx w.tx tx)) (is_open c.fates w.tx) _ _
     (λ h. ap (λ v. v || own_has (filter (stands c.fates) (writes c)) columns asked w.row w.tx) (committed_same c columns asked w.row)
     ∙ ap (λ v. committed_has (has_committed c) (writes c) columns asked w.row || v) (own_same c columns asked w.row w.tx h))
 
 pub blockers_same : (c : Content) (index : List Noted) → IsUpToDate index c → (table : TableId) (tx : TxId) (asked : List Value) (columns : List ℕ)
-    → blockers_among (has_committed c) (λ u. not (has_committed c u)) index table tx asked columns ≡ key_blockers c table tx asked columns
+    → blockers_among (has_committed c) (is_open c.fates) index table tx asked columns ≡ key_blockers c table tx asked columns
 blockers_same c index up table tx asked columns =
-    ap (λ v. blockers_among (has_committed c) (λ u. not (has_committed c u)) v table tx asked columns) up
-    ∙ ap (λ ws. map (λ (w : Noted). w.tx) ws) (filter-filter (stands c.fates) (is_in_way (has_committed c) (λ u. not (has_committed c u)) (filter (stands c.fates) (writes c)) table columns asked tx) (is_in_way (has_committed c) (is_open c.fates) (writes c) table columns asked tx)
-    (λ w s. way_same c table tx asked columns w s)
+    ap (λ v. blockers_among (has_committed c) (is_open c.fates) v table tx asked columns) up
+    ∙ ap (λ ws. map (λ (w : Noted). w.tx) ws) (filter-filter (stands c.fates) (is_in_way (has_committed c) (is_open c.fates) (filter (stands c.fates) (writes c)) table columns asked tx) (is_in_way (has_committed c) (is_open c.fates) (writes c) table columns asked tx)
+    (λ w s. way_same c table tx asked columns w)
     (λ w k. or_left (is_open c.fates w.tx) (has_committed c w.tx) (active w k))
     (writes c))
     ∙ sym (blockers_are c table tx asked columns) where

@@ -12,4 +12,5 @@ mod Slots
 mod SameCode
 mod Places
 mod Leading
-mod Searched
+mod Standing
+mod Taking

@@ -6,11 +6,10 @@ use mathlib.Core.List.{reverse_aux}
 use Rattle.sql_values.specs.declared.value.Value.{Value}
 use Rattle.row_versions.specs.declared.names.TxId.{TxId}
 use Rattle.row_versions.specs.declared.names.RowId.{RowId}
-use Rattle.row_versions.specs.declared.names.TableId.{TableId}
 use Rattle.unique_keys.specs.declared.noted.Noted.{Noted}
 use Rattle.row_versions.specs.Members.{same_tx}
 use Rattle.unique_keys.specs.Keys.{has_key}
-use Rattle.unique_keys.specs.Inner.Finding.{last_of, version_has, is_committed_version, committed_has, own_has, is_in_way}
+use Rattle.unique_keys.specs.Inner.Finding.{last_of, version_has, is_committed_version, committed_has, own_has}
 
 pub both : (a b : Bool) → (a && b) ≡ true → (a ≡ true) × (b ≡ true)
 both true b h = (refl, h)
@@ -66,13 +65,8 @@ last_has : (p : Noted → Bool) (columns : List ℕ) (asked : List Value) (ws : 
 last_has p columns asked ws h =
     or_false (list_any (λ v. p v && has_key columns asked v.values) ws) (any-reverse_aux (λ v. p v && has_key columns asked v.values) ws [] (find_has p columns asked (reverse ws) h))
 
-row_is : (a b : RowId) → (a.0 == b.0) ≡ true → a ≡ b
+pub row_is : (a b : RowId) → (a.0 == b.0) ≡ true → a ≡ b
 row_is a b h = let mk : ℕ → RowId = λ n. record { 0 = n } in ap mk (eqb-true a.0 b.0 h)
-
--- a write has the key, and one of its row stands in the way
-abbrev pub leads_to_way : (TxId → Bool) → (TxId → Bool) → List Noted → TableId → List ℕ → List Value → TxId → Noted → Bool
-leads_to_way committed active ws table columns asked tx v =
-    has_key columns asked v.values && list_any (λ w. (w.row.0 == v.row.0) && is_in_way committed active ws table columns asked tx w) ws
 
 -- where the row's newest committed version, or an own one, has the key, a write of the row has it
 pub has_of_row : (committed : TxId → Bool) (ws : List Noted) (columns : List ℕ) (asked : List Value) (row : RowId) (u : TxId)

@@ -5,7 +5,7 @@ use Rattle.std.specs.Option.{option_or}
 use Rattle.std.specs.List.{list_any}
 use Rattle.std.proofs.lemmas.List.{reverse-append}
 use Rattle.std.proofs.lemmas.List.Folds.{find-append}
-use Rattle.places.specs.Noted.{has_place, without_last}
+use Rattle.places.specs.Noted.{has_no_place_twice, has_place, without_last}
 use Rattle.row_versions.specs.declared.names.TxId.{TxId}
 use Rattle.row_versions.specs.Members.{same_tx}
 use Rattle.unique_keys.specs.declared.noted.Noted.{Noted}
@@ -68,7 +68,7 @@ here q (x ∷ xs) p h k = step (x == p) refl h (λ t. here q xs p t k) where
   step true e t others = or_left (q x) (list_any q xs) (subst (λ v. q v ≡ true) (sym (eqb-true x p e)) k)
   step false e t others = or_right (q x) (list_any q xs) (others t)
 
-some_place : (q : ℕ → Bool) (places : List ℕ) → list_any q places ≡ true → (p : ℕ) × (q p ≡ true)
+pub some_place : (q : ℕ → Bool) (places : List ℕ) → list_any q places ≡ true → (p : ℕ) × (q p ≡ true)
 some_place q [] h = cc
 some_place q (x ∷ xs) h = step (q x) refl h (λ k. some_place q xs k) where
   step : (b : Bool) → q x ≡ b → (b || list_any q xs) ≡ true → (list_any q xs ≡ true → (p : ℕ) × (q p ≡ true)) → (p : ℕ) × (q p ≡ true)
@@ -85,7 +85,7 @@ any_listed test slots places listed = alike _ _ there back where
   back h = let r = exists_at test slots h in here (λ p. passes test (at slots p)) places r.0 (listed r.0 r.1) r.1
 
 -- the first place whose note passes, and the last
-find_at : (test : Noted → Bool) (slots : List (Option Noted)) (m : ℕ) → passes test (at slots m) ≡ true → ((k : ℕ) → k < m → passes test (at slots k) ≡ false) → find test (kept slots) ≡ at slots m
+pub find_at : (test : Noted → Bool) (slots : List (Option Noted)) (m : ℕ) → passes test (at slots m) ≡ true → ((k : ℕ) → k < m → passes test (at slots k) ≡ false) → find test (kept slots) ≡ at slots m
 find_at test [] m h before = cc
 find_at test (None ∷ slots) zero h before = cc
 find_at test (None ∷ slots) (suc m) h before = find_at test slots m h (λ k l. before (suc k) (omega arith))
@@ -157,15 +157,14 @@ above_later limit (x ∷ xs) (suc i) d k r l h s = step (x == k) refl h (λ t. a
   step true e t others = let same : x ≡ k = eqb-true x k e in let first : x ≤ get_or xs i d = le in absurd (omega arith)
   step false e t others = others t
 
--- the first of the listed places whose note passes has the first note that does
-pub first_found : (test : Noted → Bool) (slots : List (Option Noted)) (places : List ℕ) (limit i d : ℕ) → Rises limit places → Listed slots places test → i < length places
-    → passes test (at slots (get_or places i d)) ≡ true → list_any (λ p. passes test (at slots p)) (take i places) ≡ false → find test (kept slots) ≡ at slots (get_or places i d)
-first_found test slots places limit i d r listed l h none = find_at test slots (get_or places i d) h earlier where
-  earlier : (k : ℕ) → k < get_or places i d → passes test (at slots k) ≡ false
-  earlier k s = fails (passes test (at slots k)) (λ e. true_or_false (list_any (λ p. passes test (at slots p)) (take i places))
-      (here (λ p. passes test (at slots p)) (take i places) k (below_earlier limit places i d k r l (listed k e) s) e) none)
+-- before the first of the listed places whose note passes no note does
+pub first_at : (test : Noted → Bool) (slots : List (Option Noted)) (places : List ℕ) (limit i d : ℕ) → Rises limit places → Listed slots places test → i < length places
+    → list_any (λ p. passes test (at slots p)) (take i places) ≡ false → (k : ℕ) → k < get_or places i d → passes test (at slots k) ≡ false
+first_at test slots places limit i d r listed l none k s =
+    fails (passes test (at slots k)) (λ e. true_or_false (list_any (λ p. passes test (at slots p)) (take i places))
+    (here (λ p. passes test (at slots p)) (take i places) k (below_earlier limit places i d k r l (listed k e) s) e) none)
 
--- and the last the last
+-- the last of the listed places whose note passes has the last note that does
 pub last_found : (test : Noted → Bool) (slots : List (Option Noted)) (places : List ℕ) (limit i d : ℕ) → Rises limit places → Listed slots places test → i < length places
     → passes test (at slots (get_or places i d)) ≡ true → list_any (λ p. passes test (at slots p)) (drop (suc i) places) ≡ false → last_of test (kept slots) ≡ at slots (get_or places i d)
 last_found test slots places limit i d r listed l h none = last_at test slots (get_or places i d) h later where
@@ -204,7 +203,7 @@ rises_pushed (x ∷ xs) place r = (r.0, all, rises_pushed xs place r.2) where
     step false true e f t = let same : place ≡ later = eqb-true place later f in let le : x ≤ place = r.0 in omega arith
     step false false e f t = cc
 
-has_struck : (place : ℕ) (places : List ℕ) (p : ℕ) → has_place (without_last place places) p ≡ true → has_place places p ≡ true
+pub has_struck : (place : ℕ) (places : List ℕ) (p : ℕ) → has_place (without_last place places) p ≡ true → has_place places p ≡ true
 has_struck place [] p h = h
 has_struck place (x ∷ xs) p h = step (has_place xs place) (x == place) h (has_struck place xs p) where
   more : (c : Bool) → (c || has_place (without_last place xs) p) ≡ true → (has_place (without_last place xs) p ≡ true → has_place xs p ≡ true) → (c || has_place xs p) ≡ true
@@ -233,6 +232,21 @@ keeps_struck place (x ∷ xs) p n h = step (has_place xs place) (x == place) ref
   step true a e t others = more (x == p) t others
   step false true e t others = another (x == p) refl e t
   step false false e t others = t
+
+-- no place comes twice where one is added that wasn't there, nor where one is struck
+pub once_pushed : (places : List ℕ) (place : ℕ) → has_place places place ≡ false → has_no_place_twice places → has_no_place_twice (places ++ place ∷ [])
+once_pushed [] place n d = (refl, tt)
+once_pushed (x ∷ xs) place n d =
+    let t = or_none (x == place) (has_place xs place) n in
+    (has_last xs place x ∙ ap (λ b. b || (place == x)) d.0 ∙ fails (place == x) (λ e. true_or_false (x == place) (eq-eqb x place (sym (eqb-true place x e))) t.0), once_pushed xs place t.1 d.1)
+
+pub once_struck : (place : ℕ) (places : List ℕ) → has_no_place_twice places → has_no_place_twice (without_last place places)
+once_struck place [] d = tt
+once_struck place (x ∷ xs) d = step (has_place xs place) (x == place) (once_struck place xs d.1) where
+  step : (b a : Bool) → has_no_place_twice (without_last place xs) → has_no_place_twice (cond b (x ∷ without_last place xs) (cond a xs (x ∷ xs)))
+  step true a rest = (fails (has_place (without_last place xs) x) (λ h. true_or_false (has_place xs x) (has_struck place xs x h) d.0), rest)
+  step false true rest = d.1
+  step false false rest = d
 
 pub rises_struck : (place : ℕ) (places : List ℕ) (limit : ℕ) → Rises limit places → Rises limit (without_last place places)
 rises_struck place [] limit r = tt

@@ -4,4 +4,3 @@ pub mod Codes
 pub mod Slots
 pub mod Listing
 pub mod WellKept
-pub mod Searching

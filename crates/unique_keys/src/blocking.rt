@@ -1,27 +1,40 @@
 //! Who stands in the way of a key.
-ghost use Rattle.std.specs.Prelude.{◌≡◌, ◌==◌, not, ◌&&◌, true, false, IfOk, OnOk, IfSome, IfNone, List};
+ghost use Rattle.std.specs.Prelude.{◌≡◌, ◌==◌, ◌&&◌, true, IfOk, OnErr, filter};
 ghost use Rattle.std.specs.List.{list_any};
-ghost use Rattle.row_versions.specs.Log.{has_committed};
-ghost use Rattle.unique_keys.specs.Members.{EachOnce};
-ghost use Rattle.row_versions.specs.Members.{has, same_tx};
+ghost use Rattle.row_versions.specs.Log.{has_committed, open_in};
+ghost use Rattle.row_versions.specs.Members.{same_tx};
 ghost use Rattle.unique_keys.specs.Keys.{has_key};
-ghost use Rattle.unique_keys.specs.Inner.Finding.{own_has, is_in_way, is_in_row, blockers_among};
+ghost use Rattle.unique_keys.specs.Inner.Finding.{holds, holds_by_row, is_blocker, own_has, wrote};
 ghost use Rattle.unique_keys.specs.Inner.Slots.{at, kept, passes};
-ghost use Rattle.unique_keys.specs.Inner.Searching.{AddsTxOf, FoundMore, is_to_search};
-ghost use Rattle.unique_keys.specs.Inner.WellKept.{WellKept};
+ghost use Rattle.unique_keys.specs.Inner.WellKept.{Leads, WellKept};
 
 use crate::newest::committed_has;
-use crate::noted::{Noted, has_key};
+use crate::noted::has_key;
 use crate::notes::Notes;
 use row_versions::{RowId, TableId, TxId, Versions};
 use smallvec::SmallVec;
 use sql_values::Value;
 use std::alloc::{AllocError, Global};
 
-fn has(list: &[TxId], tx: TxId) -> bool
-    ensures { result ≡ has list.now tx }
+/// Whether the note at the place, if there is one, is of the row, the transaction and the table.
+fn is_write_at(notes: &Notes, table: TableId, row: RowId, tx: TxId, place: usize) -> bool
+    ensures { result ≡ passes (λ w. ((w.row.0 == row.0) && same_tx w.tx tx) && (w.table.0 == table.0)) (at notes.now.slots.items place) }
 {
-    list.iter().any(|other| other.0 == tx.0)
+    match notes.at(place) {
+        Some(note) => note.row.0 == row.0 && note.tx.0 == tx.0 && note.table.0 == table.0,
+        None => false,
+    }
+}
+
+/// Whether the transaction wrote the row in the table.
+fn wrote(notes: &Notes, table: TableId, row: RowId, tx: TxId) -> bool
+    requires { WellKept notes.now }
+    ensures { result ≡ wrote (kept notes.now.slots.items) table row tx }
+{
+    let places = notes.written(row, tx);
+    places
+        .iter()
+        .any(|place| is_write_at(notes, table, row, tx, *place))
 }
 
 fn own_has_at(
@@ -35,7 +48,7 @@ fn own_has_at(
     ensures { result ≡ passes (λ v. ((v.row.0 == row.0) && same_tx v.tx tx) && has_key columns.now asked.now v.values) (at notes.now.slots.items place) }
 {
     match notes.at(place) {
-        Some(note) => { note.row.0 == row.0 && note.tx.0 == tx.0 && has_key(columns, asked, note) }
+        Some(note) => note.row.0 == row.0 && note.tx.0 == tx.0 && has_key(columns, asked, note),
         None => false,
     }
 }
@@ -45,56 +58,14 @@ fn own_has(notes: &Notes, columns: &[u32], asked: &[Value], row: RowId, tx: TxId
     requires { WellKept notes.now }
     ensures { result ≡ own_has (kept notes.now.slots.items) columns.now asked.now row tx }
 {
-    let places = notes.by_row.at(row.0);
+    let places = notes.written(row, tx);
     places
         .iter()
         .any(|place| own_has_at(notes, columns, asked, row, tx, *place))
 }
 
-/// Whether the write stands in the way: whoever is noted and hasn't committed is open.
-fn is_in_way<V: Versions>(
-    store: &V,
-    notes: &Notes,
-    table: TableId,
-    columns: &[u32],
-    asked: &[Value],
-    tx: TxId,
-    note: &Noted,
-) -> bool
-    requires { WellKept notes.now }
-    ensures { result ≡ is_in_way (has_committed (V.content store.now)) (λ u. not (has_committed (V.content store.now) u)) (kept notes.now.slots.items) table columns.now asked.now tx note.now }
-{
-    note.table.0 == table.0
-        && note.tx.0 != tx.0
-        && !store.has_committed(note.tx)
-        && (committed_has(store, notes, columns, asked, note.row)
-            || own_has(notes, columns, asked, note.row, note.tx))
-}
-
-/// Whether the note at the place, if there is one, is of the row and stands in the way.
-fn is_in_way_at<V: Versions>(
-    store: &V,
-    notes: &Notes,
-    table: TableId,
-    columns: &[u32],
-    asked: &[Value],
-    tx: TxId,
-    row: RowId,
-    place: usize,
-) -> bool
-    requires { WellKept notes.now }
-    ensures { result ≡ passes (is_in_row (has_committed (V.content store.now)) (λ u. not (has_committed (V.content store.now) u)) (kept notes.now.slots.items) table columns.now asked.now tx row) (at notes.now.slots.items place) }
-{
-    match notes.at(place) {
-        Some(note) => {
-            note.row.0 == row.0 && is_in_way(store, notes, table, columns, asked, tx, note)
-        }
-        None => false,
-    }
-}
-
-/// Whether a write of the row stands in the way.
-fn is_row_in_way<V: Versions>(
+/// Whether the transaction, while it is open, holds the key by what it wrote of the row.
+fn holds_by_row<V: Versions>(
     store: &V,
     notes: &Notes,
     table: TableId,
@@ -104,39 +75,57 @@ fn is_row_in_way<V: Versions>(
     row: RowId,
 ) -> bool
     requires { WellKept notes.now }
-    ensures { result ≡ list_any (is_in_row (has_committed (V.content store.now)) (λ u. not (has_committed (V.content store.now) u)) (kept notes.now.slots.items) table columns.now asked.now tx row) (kept notes.now.slots.items) }
+    ensures { result ≡ holds_by_row (has_committed (V.content store.now)) (kept notes.now.slots.items) table columns.now asked.now tx row }
 {
-    let places = notes.by_row.at(row.0);
-    places.iter().any(|place| is_in_way_at(store, notes, table, columns, asked, tx, row, *place))
+    wrote(notes, table, row, tx)
+        && (committed_has(store, notes, columns, asked, row)
+            || own_has(notes, columns, asked, row, tx))
 }
 
-/// The row of the note at the place, if that has the key and the row isn't the one that was searched last.
-fn row_to_search(
+/// Whether the transaction, while it is open, holds the key. Only candidate rows are searched.
+fn holds<V: Versions>(
+    store: &V,
     notes: &Notes,
+    table: TableId,
     columns: &[u32],
     asked: &[Value],
-    searched: Option<RowId>,
-    place: usize,
-) -> Option<RowId>
-    ensures found { IfSome result (λ row. passes (λ v. has_key columns.now asked.now v.values && (v.row.0 == row.0)) (at notes.now.slots.items place) ≡ true) }
-    ensures none { IfNone result (passes (is_to_search columns.now asked.now searched) (at notes.now.slots.items place) ≡ false) }
+    candidates: &[usize],
+    tx: TxId,
+) -> bool
+    requires well { WellKept notes.now }
+    requires leads { Leads notes.now.slots.items candidates.now table columns.now asked.now }
+    ensures { result ≡ holds (has_committed (V.content store.now)) (kept notes.now.slots.items) table columns.now asked.now tx }
 {
-    let Some(note) = notes.at(place) else {
-        return None;
-    };
-    if let Some(row) = searched {
-        if row.0 == note.row.0 {
-            return None;
-        }
-    }
-    if has_key(columns, asked, note) {
-        Some(note.row)
-    } else {
-        None
-    }
+    candidates.iter().any(|row| holds_by_row(
+        store,
+        notes,
+        table,
+        columns,
+        asked,
+        tx,
+        RowId(*row as u64),
+    ))
 }
 
-/// Whether anybody stands in the way. Only rows are searched of which a write has the key.
+/// Whether the other transaction, while it is open, stands in the way of the one that asks.
+fn is_blocker<V: Versions>(
+    store: &V,
+    notes: &Notes,
+    table: TableId,
+    columns: &[u32],
+    asked: &[Value],
+    candidates: &[usize],
+    tx: TxId,
+    other: TxId,
+) -> bool
+    requires well { WellKept notes.now }
+    requires leads { Leads notes.now.slots.items candidates.now table columns.now asked.now }
+    ensures { result ≡ is_blocker (has_committed (V.content store.now)) (kept notes.now.slots.items) table columns.now asked.now tx other }
+{
+    other.0 != tx.0 && holds(store, notes, table, columns, asked, candidates, other)
+}
+
+/// Whether anybody stands in the way.
 pub fn is_blocked<V: Versions>(
     store: &V,
     notes: &Notes,
@@ -146,57 +135,19 @@ pub fn is_blocked<V: Versions>(
     tx: TxId,
 ) -> bool
     requires { WellKept notes.now }
-    ensures { result ≡ list_any (is_in_way (has_committed (V.content store.now)) (λ u. not (has_committed (V.content store.now) u)) (kept notes.now.slots.items) table columns.now asked.now tx) (kept notes.now.slots.items) }
+    ensures { result ≡ list_any (is_blocker (has_committed (V.content store.now)) (kept notes.now.slots.items) table columns.now asked.now tx) (open_in (V.content store.now).fates) }
 {
     let candidates = notes.candidates(table, columns, asked);
-    let mut searched = None;
-    for place in candidates {
-        if let Some(row) = row_to_search(notes, columns, asked, searched, *place) {
-            if is_row_in_way(store, notes, table, columns, asked, tx, row) {
-                return true;
-            }
-            searched = Some(row);
+    let others = store.open_txs();
+    for other in others {
+        if is_blocker(store, notes, table, columns, asked, candidates, tx, *other) {
+            return true;
         }
     }
     false
 }
 
-/// Adds the transaction of the note at the place, if it isn't found yet.
-fn add_tx_at(by: &mut SmallVec<TxId, 4>, notes: &Notes, place: usize) -> Result<(), AllocError>
-    ensures { OnOk result (AddsTxOf (at notes.now.slots.items place) by.old.items by.new.items) }
-{
-    if let Some(note) = notes.at(place) {
-        if !has(by.as_slice(), note.tx) {
-            by.push(note.tx)?;
-        }
-    }
-    Ok(())
-}
-
-/// Adds those who stand in the way by a write of the row, if they aren't found yet.
-fn add_blockers<V: Versions>(
-    by: &mut SmallVec<TxId, 4>,
-    store: &V,
-    notes: &Notes,
-    table: TableId,
-    columns: &[u32],
-    asked: &[Value],
-    tx: TxId,
-    row: RowId,
-) -> Result<(), AllocError>
-    requires { WellKept notes.now }
-    ensures { OnOk result (FoundMore (is_in_way (has_committed (V.content store.now)) (λ u. not (has_committed (V.content store.now) u)) (kept notes.now.slots.items) table columns.now asked.now tx) notes.now.slots.items row by.old.items by.new.items) }
-{
-    let places = notes.by_row.at(row.0);
-    for place in places {
-        if is_in_way_at(store, notes, table, columns, asked, tx, row, *place) {
-            add_tx_at(by, notes, *place)?;
-        }
-    }
-    Ok(())
-}
-
-/// The transactions that stand in the way, each once.
+/// The transactions that stand in the way, in the order in which they began.
 pub fn blockers<V: Versions>(
     alloc: Global,
     store: &V,
@@ -207,15 +158,15 @@ pub fn blockers<V: Versions>(
     tx: TxId,
 ) -> Result<SmallVec<TxId, 4>, AllocError>
     requires { WellKept notes.now }
-    ensures { IfOk result (λ by. EachOnce (blockers_among (has_committed (V.content store.now)) (λ u. not (has_committed (V.content store.now) u)) (kept notes.now.slots.items) table tx asked.now columns.now) by.items) }
+    ensures ok { IfOk result (λ by. by.items ≡ filter (is_blocker (has_committed (V.content store.now)) (kept notes.now.slots.items) table columns.now asked.now tx) (open_in (V.content store.now).fates)) }
+    ensures err { OnErr result (list_any (is_blocker (has_committed (V.content store.now)) (kept notes.now.slots.items) table columns.now asked.now tx) (open_in (V.content store.now).fates) ≡ true) }
 {
     let candidates = notes.candidates(table, columns, asked);
     let mut by: SmallVec<TxId, 4> = SmallVec::new(alloc);
-    let mut searched = None;
-    for place in candidates {
-        if let Some(row) = row_to_search(notes, columns, asked, searched, *place) {
-            add_blockers(&mut by, store, notes, table, columns, asked, tx, row)?;
-            searched = Some(row);
+    let others = store.open_txs();
+    for other in others {
+        if is_blocker(store, notes, table, columns, asked, candidates, tx, *other) {
+            by.push(*other)?;
         }
     }
     Ok(by)

@@ -8,7 +8,7 @@ use sql_values::Value;
 
 /// The number behind the code, which makes a new code.
 #[tactic(auto, unfolding(crate::specs::Inner::Codes::mix))]
-fn mix(code: u64, number: u64) -> u64
+pub fn mix(code: u64, number: u64) -> u64
     ensures { result ≡ mix code number }
 {
     code.wrapping_mul(1_000_003).wrapping_add(number)

@@ -1,5 +1,5 @@
 //! The index of unique keys.
-ghost use Rattle.std.specs.Prelude.{◌≡◌, ◌<◌, ◌^◌, ℕ, List, [], ◌∷◌, ◌++◌, not, length, OnOk, OnErr, IfOk};
+ghost use Rattle.std.specs.Prelude.{◌≡◌, ◌≢◌, ◌<◌, ◌^◌, ℕ, List, [], ◌∷◌, ◌++◌, not, length, OnOk, OnErr, IfOk};
 ghost use Rattle.std.specs.Option.{option_copied};
 ghost use Rattle.row_versions.specs.Log.{Content, IsOpen};
 ghost use Rattle.unique_keys.specs.Members.{EachOnce};
@@ -154,7 +154,8 @@ impl KeyIndex {
         asked: &[Value],
         tx: TxId,
     ) -> Result<SmallVec<TxId, 4>, AllocError>
-        ensures { IfOk result (λ by. IsUpToDate self.now (V.content store.now) → EachOnce (key_blockers (V.content store.now) table tx asked.now columns.now) by.items) }
+        ensures by { IfOk result (λ by. IsUpToDate self.now (V.content store.now) → EachOnce (key_blockers (V.content store.now) table tx asked.now columns.now) by.items) }
+        ensures memory { OnErr result (IsUpToDate self.now (V.content store.now) → key_blockers (V.content store.now) table tx asked.now columns.now ≢ []) }
     {
         let alloc = self.notes.alloc();
         blockers(alloc, store, &self.notes, table, columns, asked, tx)

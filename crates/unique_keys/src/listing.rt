@@ -10,6 +10,7 @@ use std::alloc::AllocError;
 pub fn add(places: &mut Places, number: u64, place: usize) -> Result<(), AllocError>
     ensures grown { Grown place places.old places.new }
     ensures added { OnOk result (has_place (noted places.new number) place ≡ true) }
+    ensures others { (other : ℕ) → (other == number) ≡ false → noted places.new other ≡ noted places.old other }
 {
     places.add(number, place)
 }

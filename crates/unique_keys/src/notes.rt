@@ -5,8 +5,8 @@ ghost use Rattle.std.specs.Option.{option_copied};
 ghost use Rattle.places.specs.Noted.{has_place, noted};
 ghost use Rattle.row_versions.specs.Members.{same_tx};
 ghost use Rattle.unique_keys.specs.Writes.{notes_without};
-ghost use Rattle.unique_keys.specs.Inner.Slots.{at, is_elsewhere, kept, passes, Rises};
-ghost use Rattle.unique_keys.specs.Inner.WellKept.{IsListed, Leads, WellKept};
+ghost use Rattle.unique_keys.specs.Inner.Slots.{at, is_elsewhere, kept, passes, Listed};
+ghost use Rattle.unique_keys.specs.Inner.WellKept.{AreAll, IsListed, Leads, WellKept};
 
 use crate::codes::key_code;
 use crate::known::{KnownKey, add_codes, is_known, strike_codes};
@@ -22,9 +22,9 @@ use std::alloc::{AllocError, Global};
 pub struct Notes {
     alloc: Global,
     pub slots: Vec<Option<Noted>>,
-    /// Every place.
+    /// Every row.
     all: Vec<usize>,
-    /// From a code to the places of the notes of which a known key has it.
+    /// From a code to rows among which are all that were given a known key of that code: each once.
     by_code: Places,
     /// From a row to the places of its notes.
     pub by_row: Places,
@@ -62,6 +62,18 @@ fn has_table(slots: &[Option<Noted>], table: TableId) -> bool
     ensures { result ≡ list_any (passes (λ w. w.table.0 == table.0)) slots.now }
 {
     slots.iter().any(|slot| is_of_table(slot, table))
+}
+
+/// Lists the row among all, if no place is listed for it.
+fn list_row(all: &mut Vec<usize>, by_row: &Places, row: RowId) -> Result<(), AllocError>
+    requires { AreAll by_row.now all.old.items }
+    ensures rows { AreAll by_row.now all.new.items }
+    ensures listed { OnOk result (has_place all.new.items row.0 ≡ true) }
+{
+    if by_row.at(row.0).is_empty() {
+        push_place(all, row.0 as usize)?;
+    }
+    Ok(())
 }
 
 impl Notes {
@@ -147,10 +159,10 @@ impl Notes {
         ensures listed { OnOk result (IsListed self.new note.now place) }
     {
         self.mixed = self.is_mixed_by(note);
-        push_place(&mut self.all, place)?;
+        list_row(&mut self.all, &self.by_row, note.row)?;
         add(&mut self.by_row, note.row.0, place)?;
         add(&mut self.by_tx, note.tx.0, place)?;
-        add_codes(&mut self.by_code, &self.known, note, place)?;
+        add_codes(&mut self.by_code, &self.known, note)?;
         Ok(())
     }
 
@@ -167,7 +179,7 @@ impl Notes {
         Ok(())
     }
 
-    /// Empties the slot at the place, and strikes it where its note was listed by its row and its keys.
+    /// Empties the slot at the place, and strikes it where its note was listed by its row. If that leaves no note of the row, strikes the row where it was listed by the note's keys.
     fn empty(&mut self, place: usize)
         requires { WellKept self.old }
         ensures slots { self.new.slots.items ≡ set self.old.slots.items place None }
@@ -176,7 +188,9 @@ impl Notes {
     {
         if let Some(note) = take(&mut self.slots, place) {
             strike(&mut self.by_row, note.row.0, place);
-            strike_codes(&mut self.by_code, &self.known, &note, place);
+            if self.by_row.at(note.row.0).is_empty() {
+                strike_codes(&mut self.by_code, &self.known, &note);
+            }
         }
     }
 
@@ -251,11 +265,24 @@ impl Notes {
         Ok(())
     }
 
-    /// Places among which are those of all notes that may have the key: by its code where it is known, else every place.
+    /// Places among which are those of all notes of the row by the transaction: the row's or the transaction's, whichever are fewer.
+    pub fn written(&self, row: RowId, tx: TxId) -> &[usize]
+        requires { WellKept self.now }
+        ensures { Listed self.now.slots.items result.now (λ w. (w.row.0 == row.0) && same_tx w.tx tx) }
+    {
+        let of_row = self.by_row.at(row.0);
+        let of_tx = self.by_tx.at(tx.0);
+        if of_row.len() < of_tx.len() {
+            of_row
+        } else {
+            of_tx
+        }
+    }
+
+    /// Rows among which are all that may have the key: by its code where it is known, else every row.
     pub fn candidates(&self, table: TableId, columns: &[u32], asked: &[Value]) -> &[usize]
         requires { WellKept self.now }
-        ensures leads { Leads self.now.slots.items result.now table columns.now asked.now }
-        ensures rises { Rises (length self.now.slots.items) result.now }
+        ensures { Leads self.now.slots.items result.now table columns.now asked.now }
     {
         if self.mixed || !is_known(&self.known, table, columns) {
             return self.all.as_slice();

@@ -1,4 +1,4 @@
-//! Random lists of writes, with a commit and a rollback between: what the index of keys finds is what the definitions say, asked of a plain list of the writes.
+//! Random lists of writes by several open transactions, with ends of some between: what the index of keys finds is what the definitions say, asked of a plain list of the writes.
 ghost use Rattle.std.specs.Prelude.{◌≡◌};
 
 use crate::told::{at_last, holds};
@@ -10,6 +10,11 @@ use unique_keys::{Found, KeyIndex};
 const TABLE: TableId = TableId(3);
 
 const LISTS: u64 = 60;
+
+const TXS: u64 = 6;
+
+/// No transaction has this number.
+const NOBODY: u64 = 99;
 
 /// How many writes come before each end of a transaction.
 const WRITES: u32 = 8;
@@ -52,7 +57,9 @@ struct Put {
 struct Lists {
     index: KeyIndex,
     puts: Vec<Put>,
-    ends: [End; 4],
+    ends: [End; 6],
+    /// Only the first two rows are written, again and again.
+    is_hot: bool,
 }
 
 impl Lists {
@@ -86,18 +93,33 @@ impl Lists {
         has
     }
 
-    /// Whether another open transaction holds the key. No transaction has the number 9.
-    fn is_held(&self, number: i32, tx: u64) -> bool {
-        let mut held = false;
+    /// Whether the other transaction holds the key.
+    fn blocks(&self, number: i32, tx: u64, other: u64) -> bool {
+        let mut blocks = false;
         for put in &self.puts {
-            let others = put.tx != tx && self.end(put.tx) == End::Open;
-            if others
-                && (self.newest(put.row, 9) == Some(number) || self.gave(put.row, put.tx, number))
-            {
-                held = true;
+            let holds = self.newest(put.row, NOBODY) == Some(number)
+                || self.gave(put.row, put.tx, number);
+            if put.tx == other && holds {
+                blocks = true;
             }
         }
-        held
+        blocks && other != tx && self.end(other) == End::Open
+    }
+
+    /// Whether these, and no others, hold the key, each once.
+    fn are_blockers(&self, found: &[TxId], number: i32, tx: u64) -> bool {
+        for other in 0..TXS {
+            let mut times = 0_u64;
+            for one in found {
+                if one.0 == other {
+                    times = times.saturating_add(1);
+                }
+            }
+            if times != u64::from(self.blocks(number, tx, other)) {
+                return false;
+            }
+        }
+        true
     }
 
     /// The row that has the key, the one that was first given it.
@@ -126,7 +148,16 @@ fn row_of(alloc: Global, number: Option<i32>, big: bool) -> Result<Row, AllocErr
     Ok(Row::from_vec(vec![in alloc; Value::Int(0), value]?))
 }
 
-/// A write of a new row or of one of the first four, which is deleted, or given NULL or one of three numbers.
+/// A row that is written: one of the first two in a hot list, else one of the first four, or a new one.
+fn row_written(lists: &Lists, dice: &mut Dice) -> Option<RowId> {
+    if lists.is_hot && lists.puts.len() > 1 {
+        return Some(RowId(dice.roll(2)));
+    }
+    let old = dice.roll(8);
+    if old < 4 { Some(RowId(old)) } else { None }
+}
+
+/// A write of a row, which is deleted, or given NULL or one of three numbers.
 fn write<V: Versions>(
     alloc: Global,
     store: &mut V,
@@ -136,8 +167,7 @@ fn write<V: Versions>(
 ) -> Result<(), AllocError>
     ensures { (V.content store.new).fates ≡ (V.content store.old).fates }
 {
-    let old = dice.roll(8);
-    let row = if old < 4 { Some(RowId(old)) } else { None };
+    let row = row_written(lists, dice);
     let (number, is_gone) = match dice.roll(5) {
         0 => (None, true),
         1 => (None, false),
@@ -175,7 +205,7 @@ fn write_all<V: Versions>(
     ensures { (V.content store.new).fates ≡ (V.content store.old).fates }
 {
     for _ in 0..WRITES {
-        let tx = first.wrapping_add(dice.roll(4_u64.wrapping_sub(first)));
+        let tx = first.wrapping_add(dice.roll(TXS.wrapping_sub(first)));
         write(alloc, store, lists, dice, tx)?;
     }
     Ok(())
@@ -192,8 +222,9 @@ fn agrees<V: Versions>(
 ) -> Result<bool, AllocError> {
     let asked = row_of(alloc, Some(number), false)?;
     let (values, row) = (asked.values(), RowId(except));
+    let by = lists.index.blockers(store, TABLE, &[1], values, TxId(tx))?;
     let held = lists.index.is_held(store, TABLE, &[1], values, TxId(tx));
-    if held != lists.is_held(number, tx) {
+    if !lists.are_blockers(by.as_slice(), number, tx) || held == by.as_slice().is_empty() {
         return Ok(false);
     }
     let taker = lists.taker(number, tx, except);
@@ -202,7 +233,7 @@ fn agrees<V: Versions>(
             .index
             .find(store, TABLE, &[1], values, TxId(tx), Some(row))?
         {
-            Found::Held(_) => held,
+            Found::Held(by) => held && lists.are_blockers(by.as_slice(), number, tx),
             Found::Taken(by) => !held && taker == Some(by.row.0),
             Found::Free => !held && taker.is_none(),
         },
@@ -216,7 +247,7 @@ fn all_agree<V: Versions>(
     lists: &Lists,
     first: u64,
 ) -> Result<bool, AllocError> {
-    for tx in first..4 {
+    for tx in first..TXS {
         for number in 1..4 {
             for except in [0, 2, 5] {
                 if !agrees(alloc, store, lists, number, tx, except)? {
@@ -228,18 +259,21 @@ fn all_agree<V: Versions>(
     Ok(true)
 }
 
-/// Whether the index agrees after each part of a list: writes of four transactions, a commit, a rollback, and writes of the others.
-fn list_agrees(alloc: Global, dice: &mut Dice) -> Result<bool, AllocError> {
+/// Whether the index agrees after each part of a list: writes of six transactions, a commit, a rollback, and writes of the others.
+fn list_agrees(alloc: Global, dice: &mut Dice, is_hot: bool) -> Result<bool, AllocError> {
     let mut store = ListStore::new(alloc);
     let mut index = KeyIndex::new(alloc);
     index.learn(TABLE, &[1])?;
     let mut lists = Lists {
         index,
         puts: Vec::new(alloc),
-        ends: [End::Open; 4],
+        ends: [End::Open; 6],
+        is_hot,
     };
     let committed = store.begin()?;
     let failed = store.begin()?;
+    store.begin()?;
+    store.begin()?;
     store.begin()?;
     store.begin()?;
     write_all(alloc, &mut store, &mut lists, dice, 0)?;
@@ -257,8 +291,9 @@ fn list_agrees(alloc: Global, dice: &mut Dice) -> Result<bool, AllocError> {
 
 fn all_lists_agree(alloc: Global) -> Result<bool, AllocError> {
     let mut dice = Dice { state: 11 };
-    for _ in 0..LISTS {
-        if !list_agrees(alloc, &mut dice)? {
+    for number in 0..LISTS {
+        let is_hot = number.checked_rem(2) == Some(0);
+        if !list_agrees(alloc, &mut dice, is_hot)? {
             return Ok(false);
         }
     }

@@ -135,6 +135,9 @@ fn look<V: Versions>(store: &V, story: &mut Story) -> Result<(), AllocError> {
             story.seen.push(seen.place)?;
         }
     }
+    for tx in store.open_txs() {
+        story.seen.push(tx.0)?;
+    }
     let row = RowId(story.roll(WRITES * ROUNDS));
     let newest = store.newest(row, TxId(story.roll(2 * ROUNDS + 1)));
     story.seen.push(newest.map_or(u64::MAX, |seen| seen.place))?;

@@ -140,9 +140,10 @@ fn inserts<V: Versions>(alloc: Global, store: &mut V) -> Result<bool, AllocError
     let maker = store.begin()?;
     put_all(alloc, store, &TWO_ROWS)?;
     let before = shows_all(store, &OPEN)? && !store.has_committed(maker);
+    let is_open = store.open_txs() == [maker].as_slice();
     store.commit(maker);
     let after = shows_all(store, &COMMITTED)? && store.has_committed(maker);
-    Ok(before && after && store.committed() == 1)
+    Ok(before && is_open && after && store.open_txs().is_empty() && store.committed() == 1)
 }
 
 const UPDATE_AND_DELETE: [Put; 4] = [

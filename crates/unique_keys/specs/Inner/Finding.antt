@@ -48,13 +48,25 @@ is_in_way committed active ws table columns asked tx w =
     ((w.table.0 == table.0) && (not (same_tx w.tx tx) && active w.tx))
     && (committed_has committed ws columns asked w.row || own_has ws columns asked w.row w.tx)
 
--- it is of the row, and stands in the way
-abbrev pub is_in_row : (TxId → Bool) → (TxId → Bool) → List Noted → TableId → List ℕ → List Value → TxId → RowId → Noted → Bool
-is_in_row committed active ws table columns asked tx row w = (w.row.0 == row.0) && is_in_way committed active ws table columns asked tx w
-
 -- those transactions
 abbrev pub blockers_among : (TxId → Bool) → (TxId → Bool) → List Noted → TableId → TxId → List Value → List ℕ → List TxId
 blockers_among committed active ws table tx asked columns = map (λ w. w.tx) (filter (is_in_way committed active ws table columns asked tx) ws)
+
+-- the transaction wrote the row in the table
+abbrev pub wrote : List Noted → TableId → RowId → TxId → Bool
+wrote ws table row u = list_any (λ w. ((w.row.0 == row.0) && same_tx w.tx u) && (w.table.0 == table.0)) ws
+
+-- while it is open, the transaction holds the key by what it wrote of the row
+abbrev pub holds_by_row : (TxId → Bool) → List Noted → TableId → List ℕ → List Value → TxId → RowId → Bool
+holds_by_row committed ws table columns asked u row = wrote ws table row u && (committed_has committed ws columns asked row || own_has ws columns asked row u)
+
+-- by what it wrote of any row
+abbrev pub holds : (TxId → Bool) → List Noted → TableId → List ℕ → List Value → TxId → Bool
+holds committed ws table columns asked u = list_any (λ w. ((w.table.0 == table.0) && same_tx w.tx u) && (committed_has committed ws columns asked w.row || own_has ws columns asked w.row u)) ws
+
+-- while it is open, it stands in the way of the one that asks
+abbrev pub is_blocker : (TxId → Bool) → List Noted → TableId → List ℕ → List Value → TxId → TxId → Bool
+is_blocker committed ws table columns asked tx u = not (same_tx u tx) && holds committed ws table columns asked u
 
 -- the write counts for the transaction: it is committed, or its own
 abbrev pub counts_for : (TxId → Bool) → TxId → Noted → Bool
@@ -91,3 +103,11 @@ row_noted o = option_map (λ (w : Noted). w.row) o
 -- the row that was first given the key, of those that have it
 abbrev pub taker_among : (TxId → Bool) → List Noted → TableId → TxId → Option RowId → List Value → List ℕ → Option RowId
 taker_among committed ws table tx except asked columns = row_noted (find (takes committed ws table tx except asked columns) ws)
+
+-- the write counts, and gave the key to the row of the table
+abbrev pub gives : (TxId → Bool) → TableId → TxId → List Value → List ℕ → RowId → Noted → Bool
+gives committed table tx asked columns row w = (w.row.0 == row.0) && ((w.table.0 == table.0) && (counts_for committed tx w && has_key columns asked w.values))
+
+-- it is a write of the row that takes the key
+abbrev pub takes_by_row : (TxId → Bool) → List Noted → TableId → TxId → Option RowId → List Value → List ℕ → RowId → Noted → Bool
+takes_by_row committed ws table tx except asked columns row w = (w.row.0 == row.0) && takes committed ws table tx except asked columns w

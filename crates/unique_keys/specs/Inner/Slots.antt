@@ -1,6 +1,6 @@
 -- Notes in slots, some of which are empty, and lists of the places of slots.
-use Rattle.std.specs.Prelude.{◌≡◌, ◌==◌, ◌≤◌, ℕ, Bool, true, false, not, ◌&&◌, List, [], ◌∷◌, Option, Some, None, option_and_then, slice_get}
-use Rattle.std.specs.Option.{option_map_or}
+use Rattle.std.specs.Prelude.{◌≡◌, ◌==◌, ◌≤◌, ◌<◌, nat_lt, cond, ℕ, Bool, true, false, not, ◌&&◌, List, [], ◌∷◌, Option, Some, None, option_and_then, slice_get}
+use Rattle.std.specs.Option.{option_map_or, MatchOption}
 use Rattle.places.specs.Noted.{has_place}
 use Rattle.row_versions.specs.declared.names.RowId.{RowId}
 use Rattle.row_versions.specs.declared.names.TableId.{TableId}
@@ -32,3 +32,18 @@ Listed slots places test = (place : ℕ) → passes test (at slots place) ≡ tr
 abbrev pub Rises : ℕ → List ℕ → Type 0
 Rises limit [] = Unit {0}
 Rises limit (place ∷ places) = (place ≤ limit) × ((later : ℕ) → has_place places later ≡ true → place ≤ later) × Rises limit places
+
+-- the place is the first whose note passes the test
+pub record IsFirstAt (test : Noted → Bool) (slots : List (Option Noted)) (place : ℕ) : Type 0 where
+  pub there : passes test (at slots place) ≡ true
+  pub none_before : (k : ℕ) → k < place → passes test (at slots k) ≡ false
+
+-- if any does
+abbrev pub IsFirst : (Noted → Bool) → List (Option Noted) → Option ℕ → Type 0
+IsFirst test slots found = MatchOption found ((k : ℕ) → passes test (at slots k) ≡ false) (IsFirstAt test slots)
+
+-- the smaller of two places, where there are two
+abbrev pub earlier : Option ℕ → Option ℕ → Option ℕ
+earlier None b = b
+earlier (Some a) None = Some a
+earlier (Some a) (Some b) = Some (cond (nat_lt b a) b a)

@@ -1,12 +1,10 @@
-use Rattle.std.proofs.Common.{not, take}
+use Rattle.std.proofs.Common.{◌≡◌, filter, take}
 use Rattle.row_versions.specs.Log.{has_committed}
-use Rattle.unique_keys.specs.Inner.Finding.{is_in_way}
+use Rattle.unique_keys.specs.Inner.Finding.{is_blocker}
 use Rattle.unique_keys.specs.Inner.Slots.{kept}
-use Rattle.unique_keys.proofs.Searched.{SearchedAmong}
 use Rattle.unique_keys.proofs.blocking.blockers.Given as goal
 
--- those are found to whom the candidates so far lead
-abbrev pub invariant-loop-place : goal.invariant-loop-place
-invariant-loop-place g l =
-    let committed = has_committed (g.V.Versions.content l.store) in
-    SearchedAmong (is_in_way committed (λ u. not (committed u)) (kept l.notes.slots.items) l.table l.columns l.asked l.tx) l.notes.slots.items l.columns l.asked (take l.place-index l.candidates) l.searched l.by.items
+-- those of the ones so far who stand in the way
+abbrev pub invariant-loop-other : goal.invariant-loop-other
+invariant-loop-other g l =
+    l.by.items ≡ filter (is_blocker (has_committed (g.V.Versions.content l.store)) (kept l.notes.slots.items) l.table l.columns l.asked l.tx) (take l.other-index l.others)

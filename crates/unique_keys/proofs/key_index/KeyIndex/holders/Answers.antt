@@ -9,4 +9,4 @@ returns g c =
     (λ by once up. subst (λ v. EachOnce v by.items)
     (blockers_lent (g.V.Versions.content c.args.store.now) c.args.tx c.args.keys.now c.args.values.now c.values.result.now c.keys.inside.table c.columns_at-columns.result.now c.args.key
     (ap (λ t. t.table) c.keys.view_is) c.values.ensures c.columns_at-columns.ensures) (once up))
-    c.blockers.ensures
+    c.blockers.ensures.by

@@ -8,7 +8,7 @@ use Rattle.unique_keys.proofs.notes.Notes.learn.Goals as goal
 
 pub returns-in_err-push-clause-well : goal.returns-in_err-push-clause-well
 returns-in_err-push-clause-well c =
-    grown_keeps c.args.self.now _ (length c.args.self.now.slots.items) refl c.requires refl c.in_err-push.ensures.items (λ h. h) (grown_same _ _ _ refl) (λ n. grown_same _ _ _ refl) (λ n. grown_same _ _ _ refl) (λ n. grown_same _ _ _ refl)
+    grown_keeps c.args.self.now _ (length c.args.self.now.slots.items) refl c.requires refl c.in_err-push.ensures.items (λ h. h) c.requires.rows (λ n. grown_same _ _ _ refl) (λ n. grown_same _ _ _ refl) (λ row code h. h) c.requires.once
 
 pub returns-clause-well : goal.returns-clause-well
 returns-clause-well c =

@@ -7,8 +7,8 @@ use Rattle.unique_keys.proofs.notes.Notes.push.Goals as goal
 
 pub returns-in_err-push-clause-well : goal.returns-in_err-push-clause-well
 returns-in_err-push-clause-well c =
-    grown_keeps c.list.new.self _ (length c.list.new.self.slots.items) refl c.list.ensures.well c.in_err-push.ensures.items refl (λ h. h) (grown_same _ _ _ refl) (λ n. grown_same _ _ _ refl) (λ n. grown_same _ _ _ refl)
-    (λ n. grown_same _ _ _ refl)
+    grown_keeps c.list.new.self _ (length c.list.new.self.slots.items) refl c.list.ensures.well c.in_err-push.ensures.items refl (λ h. h) c.list.ensures.well.rows (λ n. grown_same _ _ _ refl) (λ n. grown_same _ _ _ refl)
+    (λ row code h. h) c.list.ensures.well.once
 
 pub returns-clause-well : goal.returns-clause-well
 returns-clause-well c =
