@@ -4,6 +4,8 @@
 #[cfg(test)]
 mod at_rows;
 #[cfg(test)]
+mod blocked;
+#[cfg(test)]
 mod by_events;
 #[cfg(test)]
 mod calls;

@@ -4,7 +4,7 @@ use self::Given::{Launch, Leave, Step};
 use crate::stores::comes_to_the_same;
 use crate::trial::{Engine, Line, at_last, blocks, engine_of, holds, is_legal, run};
 use crate::words::{behind, behind_outcome, behind_rows, is_over, refusal_text};
-use row_versions::Seen;
+use row_versions::{Seen, TxId};
 use session_core::replays;
 use session_machine::{EngineFault, HistItem, Mode, Reply, Turn};
 use sql_parser::Block;
@@ -185,6 +185,37 @@ fn all_keep(engine: &Engine<'_>, all: &[Kept]) -> bool {
     true
 }
 
+/// Who stands in a session's way: the numbers of their transactions.
+pub type InTheWay = (u32, &'static [u64]);
+
+fn stands_there(kept: &[TxId], tx: u64) -> bool {
+    for other in kept {
+        if other.0 == tx {
+            return true;
+        }
+    }
+    false
+}
+
+fn is_blocked_by(engine: &Engine<'_>, way: &InTheWay) -> bool {
+    let kept = engine.kept_blockers(way.0);
+    for tx in way.1 {
+        if !stands_there(kept, *tx) {
+            return false;
+        }
+    }
+    kept.len() == way.1.len()
+}
+
+fn all_blocked_by(engine: &Engine<'_>, all: &[InTheWay]) -> bool {
+    for way in all {
+        if !is_blocked_by(engine, way) {
+            return false;
+        }
+    }
+    true
+}
+
 /// Whether nothing goes on, after so many events.
 fn rests(engine: &Engine<'_>, events: usize) -> bool {
     matches!(engine.turn(), Turn::Driver) && engine.quiet() && engine.history().len() == events
@@ -279,6 +310,8 @@ pub enum Try {
     Sights(&'static [Sight]),
     /// The sessions have kept this of the statements that they are in the middle of.
     Keep(&'static [Kept]),
+    /// These, and nobody else, are kept as standing in the way of the sessions.
+    Blocked(&'static [InTheWay]),
     /// Nothing goes on, after so many events.
     Rests(usize),
     Replays,
@@ -310,6 +343,7 @@ fn is_tried(
         Try::Calls(calls) => return have_answers(rt, alloc, engine, blocks, calls),
         Try::Sights(sights) => return all_see(rt, engine, sights),
         Try::Keep(kept) => all_keep(engine, kept),
+        Try::Blocked(ways) => all_blocked_by(engine, ways),
         Try::Rests(events) => rests(engine, events),
         Try::Replays => replays_alone(alloc, blocks, engine.history())?,
         Try::ReplaysFreely => replays_freely(alloc, blocks, engine.history())?,

@@ -1,4 +1,5 @@
 pub mod BlockLemmas
+pub mod Blocking
 pub mod Freed
 pub mod Going
 pub mod Holding
@@ -6,3 +7,4 @@ pub mod Opening
 pub mod Replaying
 pub mod Stated
 pub mod Stepping
+pub mod Striking

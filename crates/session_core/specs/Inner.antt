@@ -1,4 +1,5 @@
 -- Definitions that only the inner functions' clauses and the proofs need: no clause of a public function has them.
 pub mod Answers
+pub mod Blocking
 pub mod Freed
 pub mod Kept

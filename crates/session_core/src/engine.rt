@@ -8,11 +8,12 @@ ghost use Rattle.row_versions.specs.Log.{empty_content};
 ghost use Rattle.session_machine.specs.declared.reply.Reply.{Reply as ReplyFacts};
 ghost use Rattle.session_machine.specs.Machine.{opening, Run};
 ghost use Rattle.session_machine.specs.Engine.{EngineAnswered, IsDue, IsLegal, engine_after, fault_of, is_quiet_in, opened, spent_engine, turn_of, visible_in};
-ghost use Rattle.session_core.specs.Engines.{IsOf, KeepsTargets};
+ghost use Rattle.session_core.specs.Engines.{IsOf, KeepsBlockers, KeepsTargets};
 
+use crate::blockers::AllBlockers;
 use crate::kept::Kept;
 use crate::live::Live;
-use row_versions::{Seen, Versions};
+use row_versions::{Seen, TxId, Versions};
 use session_laws::laws::stays_sound;
 use session_machine::{Answers, Engine, EngineFault, Event, HistItem, Mode, Refusal, Reply, Turn};
 use sql_blocks::{Block, same_blocks};
@@ -28,6 +29,7 @@ pub struct EngineState<'a, 't, V: Versions> {
     mode: Mode,
     live: Live<'a, 't, V>,
     kept: Kept,
+    blockers: AllBlockers,
     history: Vec<HistItem<'t>>,
     /// Memory was refused in the middle of an event: nothing is known of the machine any more.
     spent: bool,
@@ -42,6 +44,7 @@ impl<'a, 't, V: Versions> Drop for EngineState<'a, 't, V> {
             mode: _,
             live: _,
             kept: _,
+            blockers: _,
             history: _,
             spent: _,
         } = self;
@@ -55,6 +58,7 @@ impl<'a, 't, V: Versions> Model for EngineState<'a, 't, V> {
     ghost use Rattle.session_machine.specs.Engine.{Engine, IsLegal};
     ghost use Rattle.session_machine.specs.Sound.{IsSoundMachine};
     ghost use Rattle.session_core.specs.Inner.Kept.{AllKept};
+    ghost use Rattle.session_core.specs.Inner.Blocking.{AreBlockers};
     ghost use Rattle.session_machine.specs.Inner.TreeCodes.{tree_code};
     ghost use Rattle.std.specs.Coded.{codes};
 
@@ -72,7 +76,7 @@ impl<'a, 't, V: Versions> Model for EngineState<'a, 't, V> {
 
     ghost invariant = { λ e. IsLegal (blocks_of e.blocks.now) e.count e.mode e.history.items
         × (e.spent ≡ false → IsSoundMachine e.live × (e.live.events ≡ length e.history.items)
-        × Run (blocks_of e.blocks.now) e.mode (opening e.count) e.history.items e.live × AllKept (blocks_of e.blocks.now) e.live e.kept) };
+        × Run (blocks_of e.blocks.now) e.mode (opening e.count) e.history.items e.live × AllKept (blocks_of e.blocks.now) e.live e.kept × AreBlockers e.live e.blockers) };
 }
 
 /// Adds an item to the history, and gives its reply.
@@ -120,12 +124,14 @@ impl<'a, 't, V: Versions> EngineState<'a, 't, V> {
         stays_sound();
         let live = Live::new(alloc, count, store)?;
         let kept = Kept::none(alloc, count)?;
+        let blockers = AllBlockers::none(alloc, count)?;
         Ok(EngineState {
             blocks,
             count,
             mode,
             live,
             kept,
+            blockers,
             history: Vec::new(alloc),
             spent: false,
         })
@@ -143,7 +149,13 @@ impl<'a, 't, V: Versions> EngineState<'a, 't, V> {
         if self.spent {
             return Err(EngineFault::Spent);
         }
-        match self.live.act(&mut self.kept, self.blocks, self.mode, event) {
+        match self.live.act(
+            &mut self.kept,
+            &mut self.blockers,
+            self.blocks,
+            self.mode,
+            event,
+        ) {
             Ok(Ok(reply)) => match self.history.push(HistItem { event, reply }) {
                 Ok(()) => Ok(()),
                 Err(_) => {
@@ -169,7 +181,13 @@ impl<'a, 't, V: Versions> EngineState<'a, 't, V> {
         if self.spent {
             return Err(EngineFault::Spent);
         }
-        let answer = match self.live.act(&mut self.kept, self.blocks, self.mode, event) {
+        let answer = match self.live.act(
+            &mut self.kept,
+            &mut self.blockers,
+            self.blocks,
+            self.mode,
+            event,
+        ) {
             Ok(answer) => answer,
             Err(_) => {
                 self.spent = true;
@@ -254,6 +272,17 @@ impl<'a, 't, V: Versions> EngineState<'a, 't, V> {
         self.kept.of(session)
     }
 
+    /// Those who stand in the way of what the session waits for, nobody for one that doesn't wait: they are kept, and are those of
+    /// the present state. It takes no memory.
+    pub fn kept_blockers(&self, session: u32) -> &[TxId]
+        ensures { KeepsBlockers self.now session result.now }
+    {
+        if self.spent {
+            return &[];
+        }
+        self.blockers.at(session as usize)
+    }
+
     /// Whose turn it is. It takes no memory.
     pub fn turn(&self) -> Turn
         ensures { result ≡ turn_of self.now.machine }
@@ -261,7 +290,7 @@ impl<'a, 't, V: Versions> EngineState<'a, 't, V> {
         if self.spent {
             return Turn::Spent;
         }
-        match self.live.turn() {
+        match self.live.turn(&self.blockers) {
             Some(k) => Turn::Session(k as u32),
             None => Turn::Driver,
         }
@@ -271,7 +300,7 @@ impl<'a, 't, V: Versions> EngineState<'a, 't, V> {
     pub fn quiet(&self) -> bool
         ensures { result ≡ is_quiet_in self.now.machine }
     {
-        !self.spent && self.live.turn().is_none()
+        !self.spent && self.live.turn(&self.blockers).is_none()
     }
 
     /// Lets the engine go, as a drop does. A crate that drops one proves anew how each of its parts is dropped.

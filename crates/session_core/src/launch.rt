@@ -7,8 +7,10 @@ ghost use Rattle.session_machine.specs.Running.{is_definition};
 ghost use Rattle.session_machine.specs.Machine.{may_launch, next, stmts_of, with_session};
 ghost use Rattle.session_machine.specs.Inner.Steps.{first_place};
 ghost use Rattle.session_core.specs.Inner.Answers.{engine_answer};
+ghost use Rattle.session_core.specs.Inner.Blocking.{AreBlockers};
 
 use crate::block_stmts::block_stmts;
+use crate::blockers::AllBlockers;
 use crate::live::Live;
 use row_versions::Versions;
 use session_machine::{
@@ -85,11 +87,13 @@ impl<'a, 't, V: Versions> Live<'a, 't, V> {
     /// Where the session stands once it is given the block, or why it may not be.
     fn place_at_launch(
         &self,
+        blockers: &AllBlockers,
         blocks: &'a [Block<'t>],
         mode: Mode,
         session: u32,
         block: u32,
     ) -> Result<Launching, Refusal>
+        requires blockers { AreBlockers self.now blockers.now }
         ensures within { IfOk result (λ _. session < length self.now.sessions) }
         ensures ok { IfOk result (λ after. next (blocks_of blocks.now) mode self.now (Event.Launch session block)
             ≡ Ok (record {
@@ -107,7 +111,7 @@ impl<'a, 't, V: Versions> Live<'a, 't, V> {
         if current.place.is_some() {
             return Err(Refusal::Busy);
         }
-        if self.must_wait_for_rest(mode) {
+        if self.must_wait_for_rest(blockers, mode) {
             return Err(Refusal::NotYourTurn);
         }
         Ok(Launching {
@@ -119,15 +123,17 @@ impl<'a, 't, V: Versions> Live<'a, 't, V> {
     /// Gives a session a block, or says why not.
     pub fn launch(
         &mut self,
+        blockers: &AllBlockers,
         blocks: &'a [Block<'t>],
         mode: Mode,
         session: u32,
         block: u32,
     ) -> Result<Reply<'t>, Refusal>
         requires room { self.old.events + 1 < 2 ^ 64 }
+        requires blockers { AreBlockers self.old blockers.now }
         ensures { engine_answer self.old (next (blocks_of blocks.now) mode self.old (Event.Launch session block)) ≡ record { machine = self.new; answer = result } }
     {
-        match self.place_at_launch(blocks, mode, session, block) {
+        match self.place_at_launch(blockers, blocks, mode, session, block) {
             Ok(after) => {
                 let ended = after.place.is_none();
                 self.set_session(session, after.session());

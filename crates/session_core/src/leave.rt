@@ -5,8 +5,10 @@ ghost use Rattle.session_machine.specs.declared.session.OpenTransaction.{OpenTra
 ghost use Rattle.session_machine.specs.Machine.{at_rest, with_session};
 ghost use Rattle.session_machine.specs.Inner.Steps.{leave_of, left_behind};
 ghost use Rattle.session_core.specs.Inner.Answers.{engine_answer};
+ghost use Rattle.session_core.specs.Inner.Blocking.{AreBlockers};
 ghost use Rattle.session_machine.specs.Sound.{IsSoundMachine};
 
+use crate::blockers::AllBlockers;
 use crate::kept::Kept;
 use crate::live::Live;
 use row_versions::Versions;
@@ -26,8 +28,14 @@ fn undo<'a, 't, V: Versions>(db: &mut Database<'a, 't, V>, transaction: Transact
 impl<'a, 't, V: Versions> Live<'a, 't, V> {
     /// The transaction of the session that leaves, or why it may not leave.
     #[tactic(auto, using(crate::proofs::Stepping::opened_at))]
-    fn leaving(&self, mode: Mode, session: u32) -> Result<Transaction, Refusal>
+    fn leaving(
+        &self,
+        blockers: &AllBlockers,
+        mode: Mode,
+        session: u32,
+    ) -> Result<Transaction, Refusal>
         requires sound { IsSoundMachine self.now }
+        requires blockers { AreBlockers self.now blockers.now }
         ensures within { IfOk result (λ _. session < length self.now.sessions) }
         ensures opened { (t : OpenTransaction) → IfOk result (λ transaction. transaction ≡ Transaction.Open t → IsOpen self.now.db.content t.tx) }
         ensures ok { IfOk result (λ transaction. leave_of mode self.now session (slice_get self.now.sessions session)
@@ -37,22 +45,29 @@ impl<'a, 't, V: Versions> Live<'a, 't, V> {
         let Some(current) = self.session_at(session) else {
             return Err(Refusal::NoSession);
         };
-        if self.must_wait_for_rest(mode) {
+        if self.must_wait_for_rest(blockers, mode) {
             return Err(Refusal::NotYourTurn);
         }
         Ok(current.transaction)
     }
 
     /// Rolls a session's open transaction back and drops its block, with what it has kept, or says why not.
-    pub fn leave(&mut self, kept: &mut Kept, mode: Mode, session: u32) -> Result<Reply<'t>, Refusal>
+    pub fn leave(
+        &mut self,
+        kept: &mut Kept,
+        blockers: &AllBlockers,
+        mode: Mode,
+        session: u32,
+    ) -> Result<Reply<'t>, Refusal>
         requires sound { IsSoundMachine self.old }
         requires room { self.old.events + 1 < 2 ^ 64 }
+        requires blockers { AreBlockers self.old blockers.now }
         requires lists { length kept.old ≡ length self.old.sessions }
         ensures answer { engine_answer self.old (leave_of mode self.old session (slice_get self.old.sessions session)) ≡ record { machine = self.new; answer = result } }
         ensures dropped { IfOk result (λ _. kept.new ≡ slice_set kept.old session None) }
         ensures refused { IfErr result (λ _. kept.new ≡ kept.old) }
     {
-        match self.leaving(mode, session) {
+        match self.leaving(blockers, mode, session) {
             Ok(transaction) => {
                 undo(&mut self.db, transaction);
                 kept.put(session, None);

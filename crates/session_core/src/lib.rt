@@ -21,12 +21,14 @@
 #![tactic(auto)]
 
 mod block_stmts;
+mod blockers;
 mod engine;
 mod kept;
 mod launch;
 mod laws;
 mod leave;
 mod live;
+mod mending;
 mod replay;
 mod step;
 mod turns;

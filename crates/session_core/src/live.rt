@@ -1,22 +1,25 @@
 //! The machine over a store.
-ghost use Rattle.std.specs.Prelude.{◌≡◌, ◌+◌, ◌<◌, ◌≤◌, ◌^◌, ℕ, List, IfOk, IfErr, OnErr, OnOk, Ok, Err, Some, option_map, length, slice_get};
+ghost use Rattle.std.specs.Prelude.{◌≡◌, ◌+◌, ◌<◌, ◌≤◌, ◌^◌, ℕ, List, IfOk, IfErr, IfSome, OnErr, OnOk, Ok, Err, Some, option_map, length, slice_get};
 ghost use Rattle.std.specs.Global.{Vec as VecFacts};
 ghost use Rattle.iso_lexer.specs.declared.limits.TheConstants.{MOST_SESSIONS};
 ghost use Rattle.sql_blocks.specs.Blocks.{blocks_of};
 ghost use Rattle.sql_values.specs.declared.value.Value.{Value as SqlValue};
 ghost use Rattle.row_versions.specs.Log.{empty_content};
 ghost use Rattle.session_machine.specs.Sound.{IsSoundMachine};
-ghost use Rattle.session_machine.specs.Machine.{next, opening, visible, with_session};
+ghost use Rattle.session_machine.specs.Machine.{next, opening, session_of, visible, with_session};
 ghost use Rattle.session_core.specs.Inner.Answers.{engine_answer};
+ghost use Rattle.session_core.specs.Inner.Blocking.{AreBlockers};
 ghost use Rattle.session_core.specs.Inner.Kept.{AllKept};
 ghost use Rattle.session_machine.specs.Engine.{Goes};
 ghost use Rattle.wait_laws.specs.Laws.{Reaches};
 
+use crate::blockers::AllBlockers;
 use crate::kept::Kept;
+use crate::mending::Doer;
 use iso_lexer::Name;
 use row_versions::Versions;
 use session_database::Database;
-use session_machine::{Event, Mode, Refusal, Reply, Session};
+use session_machine::{Event, Mode, Refusal, Reply, Session, Transaction};
 use sql_blocks::Block;
 use sql_values::Row;
 use std::alloc::{AllocError, Global};
@@ -36,6 +39,17 @@ impl<'a, 't, V: Versions> Model for Live<'a, 't, V> {
     ghost Value = { Machine };
 
     ghost view = { λ e. record { db = e.db; sessions = e.sessions.items; events = e.events } };
+}
+
+/// The session that an event is of.
+fn session_of(event: Event) -> u32
+    ensures { result ≡ session_of event }
+{
+    match event {
+        Event::Launch { session, block: _ } => session,
+        Event::Step { session } => session,
+        Event::Leave { session } => session,
+    }
 }
 
 impl<'a, 't, V: Versions> Live<'a, 't, V> {
@@ -67,9 +81,10 @@ impl<'a, 't, V: Versions> Live<'a, 't, V> {
     }
 
     /// Does an event, and has the sessions that wait keep their targets.
-    pub fn act(
+    fn did(
         &mut self,
         kept: &mut Kept,
+        blockers: &AllBlockers,
         blocks: &'a [Block<'t>],
         mode: Mode,
         event: Event,
@@ -77,15 +92,56 @@ impl<'a, 't, V: Versions> Live<'a, 't, V> {
         requires sound { IsSoundMachine self.old }
         requires room { self.old.events + 1 < 2 ^ 64 }
         requires kept { AllKept (blocks_of blocks.now) self.old kept.old }
+        requires blockers { AreBlockers self.old blockers.now }
         ensures answer { IfOk result (λ answer. engine_answer self.old (next (blocks_of blocks.now) mode self.old event) ≡ record { machine = self.new; answer = answer }) }
         ensures kept { (count : ℕ) → Reaches (blocks_of blocks.now) mode count self.old → OnOk result (AllKept (blocks_of blocks.now) self.new kept.new) }
         ensures due { OnErr result (Goes (blocks_of blocks.now) mode self.old event) }
     {
         match event {
-            Event::Launch { session, block } => Ok(self.launch(blocks, mode, session, block)),
-            Event::Step { session } => self.step(kept, blocks, mode, session),
-            Event::Leave { session } => Ok(self.leave(kept, mode, session)),
+            Event::Launch { session, block } => {
+                Ok(self.launch(blockers, blocks, mode, session, block))
+            }
+            Event::Step { session } => self.step(kept, blockers, blocks, mode, session),
+            Event::Leave { session } => Ok(self.leave(kept, blockers, mode, session)),
         }
+    }
+
+    /// The session's transaction, if there is such a session.
+    fn transaction_of(&self, session: u32) -> Transaction
+        ensures { IfSome (slice_get self.now.sessions session) (λ s. result ≡ s.transaction) }
+    {
+        match self.session_at(session) {
+            Some(current) => current.transaction,
+            None => Transaction::Closed,
+        }
+    }
+
+    /// Does an event, has the sessions that wait keep their targets, and mends those who stand in their way.
+    pub fn act(
+        &mut self,
+        kept: &mut Kept,
+        blockers: &mut AllBlockers,
+        blocks: &'a [Block<'t>],
+        mode: Mode,
+        event: Event,
+    ) -> Result<Result<Reply<'t>, Refusal>, AllocError>
+        requires sound { IsSoundMachine self.old }
+        requires room { self.old.events + 1 < 2 ^ 64 }
+        requires kept { AllKept (blocks_of blocks.now) self.old kept.old }
+        requires blockers { AreBlockers self.old blockers.old }
+        ensures answer { IfOk result (λ answer. engine_answer self.old (next (blocks_of blocks.now) mode self.old event) ≡ record { machine = self.new; answer = answer }) }
+        ensures kept { (count : ℕ) → Reaches (blocks_of blocks.now) mode count self.old → OnOk result (AllKept (blocks_of blocks.now) self.new kept.new) }
+        ensures blockers { (count : ℕ) → Reaches (blocks_of blocks.now) mode count self.old → OnOk result (AreBlockers self.new blockers.new) }
+        ensures due { OnErr result (Goes (blocks_of blocks.now) mode self.old event) }
+    {
+        let session = session_of(event);
+        let before = self.transaction_of(session);
+        let answer = self.did(kept, blockers, blocks, mode, event)?;
+        if answer.is_ok() {
+            let after = self.transaction_of(session);
+            self.mend(blockers, session as usize, Doer::of(&before, &after))?;
+        }
+        Ok(answer)
     }
 
     /// The session of that number, if there is one.

@@ -5,9 +5,11 @@ ghost use Rattle.sql_blocks.specs.Blocks.{blocks_of};
 ghost use Rattle.session_machine.specs.Sound.{IsSoundMachine};
 ghost use Rattle.session_machine.specs.Machine.{Machine, opening, Run};
 ghost use Rattle.session_machine.specs.Engine.{Follows, IsLegal};
+ghost use Rattle.session_core.specs.Inner.Blocking.{AreBlockers};
 ghost use Rattle.session_core.specs.Inner.Kept.{AllKept};
 ghost use Rattle.wait_laws.specs.Laws.{Reaches};
 
+use crate::blockers::AllBlockers;
 use crate::kept::Kept;
 use crate::live::Live;
 use chain_store::ChainStore;
@@ -21,6 +23,7 @@ use std::alloc::{AllocError, Global};
 fn agrees<'a, 't, V: Versions>(
     live: &mut Live<'a, 't, V>,
     kept: &mut Kept,
+    blockers: &mut AllBlockers,
     blocks: &'a [Block<'t>],
     mode: Mode,
     item: &HistItem<'_>,
@@ -28,11 +31,13 @@ fn agrees<'a, 't, V: Versions>(
     requires sound { IsSoundMachine live.old }
     requires room { live.old.events + 1 < 2 ^ 64 }
     requires kept { AllKept (blocks_of blocks.now) live.old kept.old }
+    requires blockers { AreBlockers live.old blockers.old }
     ensures yes { IfOk result (λ agrees. agrees ≡ true → Follows (blocks_of blocks.now) mode live.old item.now live.new) }
     ensures no { IfOk result (λ agrees. agrees ≡ false → (after : Machine) → Follows (blocks_of blocks.now) mode live.old item.now after → ⊥) }
     ensures kept { (count : ℕ) → Reaches (blocks_of blocks.now) mode count live.old → OnOk result (AllKept (blocks_of blocks.now) live.new kept.new) }
+    ensures blockers { (count : ℕ) → Reaches (blocks_of blocks.now) mode count live.old → OnOk result (AreBlockers live.new blockers.new) }
 {
-    match live.act(kept, blocks, mode, item.event)? {
+    match live.act(kept, blockers, blocks, mode, item.event)? {
         Ok(reply) => Ok(reply.same(&item.reply)),
         Err(_) => Ok(false),
     }
@@ -53,8 +58,9 @@ pub fn replays<'a, 't>(
     stays_sound();
     let mut live = Live::new(alloc, count, ChainStore::new(alloc))?;
     let mut kept = Kept::none(alloc, count)?;
+    let mut blockers = AllBlockers::none(alloc, count)?;
     for item in history {
-        if !agrees(&mut live, &mut kept, blocks, mode, item)? {
+        if !agrees(&mut live, &mut kept, &mut blockers, blocks, mode, item)? {
             return Ok(false);
         }
     }

@@ -8,6 +8,7 @@ ghost use Rattle.session_machine.specs.declared.session.Session.{Session as Sess
 ghost use Rattle.session_machine.specs.Running.{run_stmt};
 ghost use Rattle.session_machine.specs.Sound.{IsSoundMachine};
 ghost use Rattle.session_core.specs.Inner.Answers.{engine_answer};
+ghost use Rattle.session_core.specs.Inner.Blocking.{AreBlockers};
 ghost use Rattle.session_core.specs.Inner.Kept.{AllKept, KeepsOn, KeptAt};
 ghost use Rattle.session_machine.specs.Machine.{Machine, after_stmt, closed_at_end, is_failed, next, with_session};
 ghost use Rattle.session_machine.specs.Inner.Steps.{after_block_end, finished, around};
@@ -16,9 +17,9 @@ ghost use Rattle.session_machine.specs.Engine.{Goes};
 ghost use Rattle.wait_laws.specs.Laws.{Reaches, stmt_at};
 
 use crate::block_stmts::{StmtAt, stmt_at};
+use crate::blockers::AllBlockers;
 use crate::kept::Kept;
 use crate::live::Live;
-use crate::waits::is_still_blocked;
 use row_versions::Versions;
 use session_database::{Database, Surroundings};
 use session_laws::laws::stays_sound;
@@ -105,7 +106,14 @@ fn after_end<'a, 't, V: Versions>(
 
 impl<'a, 't, V: Versions> Live<'a, 't, V> {
     /// The statement of the session's next step, or why it may not take it.
-    fn due(&self, blocks: &'a [Block<'t>], mode: Mode, session: u32) -> Result<Due<'a, 't>, Refusal>
+    fn due(
+        &self,
+        blockers: &AllBlockers,
+        blocks: &'a [Block<'t>],
+        mode: Mode,
+        session: u32,
+    ) -> Result<Due<'a, 't>, Refusal>
+        requires blockers { AreBlockers self.now blockers.now }
         ensures within { IfOk result (λ d. d.place.next < d.at.count) }
         ensures fits { IfOk result (λ d. d.at.count < 2 ^ 64) }
         ensures tree { IfOk result (λ d. stmt_at (blocks_of blocks.now) (Some d.place) ≡ Some (stmt_of d.at.stmt.now)) }
@@ -124,10 +132,10 @@ impl<'a, 't, V: Versions> Live<'a, 't, V> {
         let Some(at) = stmt_at(blocks, &place) else {
             return Err(Refusal::Idle);
         };
-        if self.must_wait_for_turn(mode, session as usize) {
+        if self.must_wait_for_turn(blockers, mode, session as usize) {
             return Err(Refusal::NotYourTurn);
         }
-        if is_still_blocked(&self.db, current) {
+        if self.is_still_blocked(blockers, session as usize) {
             return Err(Refusal::StillBlocked);
         }
         Ok(Due { place, at })
@@ -243,6 +251,7 @@ impl<'a, 't, V: Versions> Live<'a, 't, V> {
     pub fn step(
         &mut self,
         kept: &mut Kept,
+        blockers: &AllBlockers,
         blocks: &'a [Block<'t>],
         mode: Mode,
         session: u32,
@@ -250,11 +259,12 @@ impl<'a, 't, V: Versions> Live<'a, 't, V> {
         requires sound { IsSoundMachine self.old }
         requires room { self.old.events + 1 < 2 ^ 64 }
         requires kept { AllKept (blocks_of blocks.now) self.old kept.old }
+        requires blockers { AreBlockers self.old blockers.now }
         ensures answer { IfOk result (λ answer. engine_answer self.old (next (blocks_of blocks.now) mode self.old (Event.Step session)) ≡ record { machine = self.new; answer = answer }) }
         ensures kept { (count : ℕ) → Reaches (blocks_of blocks.now) mode count self.old → OnOk result (AllKept (blocks_of blocks.now) self.new kept.new) }
         ensures due { OnErr result (Goes (blocks_of blocks.now) mode self.old (Event.Step session)) }
     {
-        match self.due(blocks, mode, session) {
+        match self.due(blockers, blocks, mode, session) {
             Ok(due) => Ok(Ok(self.run(kept, session, due)?)),
             Err(refusal) => Ok(Err(refusal)),
         }

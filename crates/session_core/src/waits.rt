@@ -1,12 +1,14 @@
 //! Sessions that wait, and those whose wait nothing blocks any more.
-ghost use Rattle.std.specs.Prelude.{◌≡◌, ◌<◌, IfSome, option_map, length};
+ghost use Rattle.std.specs.Prelude.{◌≡◌, ◌<◌, Some, IfSome, option_map, length, slice_get};
 ghost use Rattle.session_machine.specs.Machine.{free_wait};
-ghost use Rattle.session_core.specs.Inner.Freed.{FreeWait, earliest_free, sooner};
 ghost use Rattle.session_machine.specs.Waits.{is_still_blocked};
+ghost use Rattle.session_core.specs.Inner.Blocking.{AreBlockers};
+ghost use Rattle.session_core.specs.Inner.Freed.{FreeWait, earliest_free, sooner};
 
+use crate::blockers::AllBlockers;
+use crate::live::Live;
 use row_versions::Versions;
-use session_database::Database;
-use session_machine::{Session, Transaction};
+use session_machine::Session;
 use std::marker::Model;
 
 /// A wait that nothing blocks any more: its number, and its session.
@@ -24,29 +26,6 @@ impl Model for Free {
     ghost view = { λ f. record { number = f.number; session = f.session } };
 }
 
-/// Whether the session waits, and what it asked for is still held against it.
-pub fn is_still_blocked<'a, 't, V: Versions>(db: &Database<'a, 't, V>, session: &Session) -> bool
-    ensures { result ≡ is_still_blocked db.now session.now }
-{
-    match (&session.transaction, &session.statement) {
-        (Transaction::Open(by), Some(progress)) => db.is_blocked(&progress.wait.request, by.tx),
-        _ => false,
-    }
-}
-
-/// The number of a wait that nothing blocks any more.
-fn free_wait<'a, 't, V: Versions>(db: &Database<'a, 't, V>, session: &Session) -> Option<u64>
-    ensures { result ≡ free_wait db.now session.now }
-{
-    if is_still_blocked(db, session) {
-        return None;
-    }
-    match &session.statement {
-        Some(progress) => Some(progress.wait.number),
-        None => None,
-    }
-}
-
 /// The sooner of a session's wait and another.
 fn sooner(number: Option<u64>, session: usize, other: Option<Free>) -> Option<Free>
     ensures { result ≡ sooner number session other }
@@ -58,20 +37,43 @@ fn sooner(number: Option<u64>, session: usize, other: Option<Free>) -> Option<Fr
     }
 }
 
-/// The session that has waited longest of those whose wait nothing blocks any more.
-pub fn freed_session<'a, 't, V: Versions>(
-    db: &Database<'a, 't, V>,
-    sessions: &[Session],
-) -> Option<usize>
-    ensures earliest { result ≡ option_map (λ (w : FreeWait). w.session) (earliest_free db.now 0 sessions.now) }
-    ensures within { IfSome result (λ k. k < length sessions.now) }
-{
-    let mut first: Option<Free> = None;
-    for k in (0..sessions.len()).rev() {
-        first = sooner(free_wait(db, &sessions[k]), k, first);
+impl<'a, 't, V: Versions> Live<'a, 't, V> {
+    /// Whether the session waits, and what it asked for is still held against it: somebody is kept who stands in its way.
+    pub fn is_still_blocked(&self, blockers: &AllBlockers, session: usize) -> bool
+        requires blockers { AreBlockers self.now blockers.now }
+        ensures { IfSome (slice_get self.now.sessions session) (λ s. result ≡ is_still_blocked self.now.db s) }
+    {
+        blockers.is_blocked(session)
     }
-    match first {
-        Some(free) => Some(free.session),
-        None => None,
+
+    /// The number of the session's wait, if it waits and nothing blocks it any more.
+    fn free_wait(&self, blockers: &AllBlockers, session: usize, current: &Session) -> Option<u64>
+        requires blockers { AreBlockers self.now blockers.now }
+        requires its { slice_get self.now.sessions session ≡ Some current.now }
+        ensures { result ≡ free_wait self.now.db current.now }
+    {
+        if self.is_still_blocked(blockers, session) {
+            return None;
+        }
+        match &current.statement {
+            Some(progress) => Some(progress.wait.number),
+            None => None,
+        }
+    }
+
+    /// The session that has waited longest of those whose wait nothing blocks any more.
+    pub fn freed_session(&self, blockers: &AllBlockers) -> Option<usize>
+        requires blockers { AreBlockers self.now blockers.now }
+        ensures earliest { result ≡ option_map (λ (w : FreeWait). w.session) (earliest_free self.now.db 0 self.now.sessions) }
+        ensures within { IfSome result (λ k. k < length self.now.sessions) }
+    {
+        let mut first: Option<Free> = None;
+        for k in (0..self.sessions.len()).rev() {
+            first = sooner(self.free_wait(blockers, k, &self.sessions[k]), k, first);
+        }
+        match first {
+            Some(free) => Some(free.session),
+            None => None,
+        }
     }
 }

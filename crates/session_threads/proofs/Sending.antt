@@ -8,6 +8,7 @@ use Rattle.sql_blocks.proofs.Sending.{block_sync}
 use Rattle.row_versions.specs.declared.versions.Versions as Versions
 use Rattle.session_machine.proofs.reply.HistItem.TheSendSync.{the_send as item_send}
 use Rattle.session_core.proofs.kept.Kept.TheSendSync.{the_send as kept_send}
+use Rattle.session_core.proofs.blockers.AllBlockers.TheSendSync.{the_send as blockers_send}
 use Rattle.session_core.proofs.live.Live.TheSendSync.{the_send as live_send}
 use Rattle.session_core.specs.contracts.engine.EngineState as EngineState
 use Rattle.session_core.specs.contracts.engine.EngineState.TheInside as EngineInside
@@ -19,7 +20,7 @@ inside_send κ λ' V v s =
     let T = EngineInside.the_type κ λ' V v in
     let all : AllSend (struct_shape T).fields = (
       search (sendable, crosses, block_sync) depth 60 fits 10000,
-      (search sendable depth 60, (search sendable depth 60, (search (sendable, crosses, live_send) depth 60, (search (sendable, crosses, kept_send) depth 60, (search (sendable, crosses, item_send) depth 60, (search sendable depth 60, tt)))))),
+      (search sendable depth 60, (search sendable depth 60, (search (sendable, crosses, live_send) depth 60, (search (sendable, crosses, kept_send) depth 60, (search (sendable, crosses, blockers_send) depth 60, (search (sendable, crosses, item_send) depth 60, (search sendable depth 60, tt))))))),
     ) in
     recorded_send _ _ _ T.to_one (struct_send (struct_shape T) all)
 

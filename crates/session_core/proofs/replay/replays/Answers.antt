@@ -3,6 +3,7 @@ use Rattle.std.proofs.lemmas.List.{drop_all}
 use Rattle.sql_blocks.specs.Blocks.{blocks_of}
 use Rattle.session_machine.specs.Machine.{opening}
 use Rattle.session_core.proofs.Replaying.{LeadsOn, legal_step, legal_not, from_place, reaches_on}
+use Rattle.session_core.proofs.Blocking.{blockers_opening}
 use Rattle.session_core.proofs.Holding.{kept_opening}
 use Rattle.session_core.proofs.replay.replays.Goals as goal
 
@@ -13,6 +14,7 @@ loop-item-init c =
       counted = refl;
       reached = ([], refl);
       kept = kept_opening (blocks_of c.args.blocks.now) c.args.count (opening c.args.count) c.in_ok-kept.kept refl c.in_ok-kept.ensures;
+      blockers = blockers_opening c.args.count (opening c.args.count) c.in_ok-blockers.blockers refl c.in_ok-blockers.ensures;
       legal = (λ h. h, λ h. h);
     })
 
@@ -38,6 +40,7 @@ loop-item-preserved c =
       counted = after.1 ∙ ap (λ k. k + 1) c.loop-item.invariant.counted;
       reached = reaches_on blocks c.args.mode c.args.count c.loop-item.live c.agrees.new.live c.item-item.result c.loop-item.invariant.reached follows;
       kept = c.in_ok-agrees.ensures.kept c.args.count c.loop-item.invariant.reached;
+      blockers = c.in_ok-agrees.ensures.blockers c.args.count c.loop-item.invariant.reached;
       legal = legal_step _ _ c.loop-item.live c.agrees.new.live c.item-item.result (drop (i + 1) c.args.history.now) _ _ follows legal;
     }
 

@@ -10,3 +10,6 @@ run_crew-requires-send-E g c κs within = search (sendable, held_send) depth 60 
 
 pub run_crew-requires-clause-new : goal.run_crew-requires-clause-new
 run_crew-requires-clause-new g c κs within k d lt = ap (λ (e : Engine). e.history) (c.in_ok-opened.ensures.new k d lt)
+
+pub returns-clause-count : goal.returns-clause-count
+returns-clause-count g c = rw (← c.in_ok-opened.ensures.count) c.run_crew.ensures.count

@@ -10,7 +10,7 @@ use Rattle.session_machine.specs.declared.session.Session.{Session}
 use Rattle.session_laws.proofs.Lists.{slice_get-set_same}
 use Rattle.session_statements.specs.Targets.{AreKept}
 use Rattle.session_core.proofs.Holding.{kept_by, kept_on, left_kept}
-use Rattle.session_core.proofs.Stepping.{left_open, opened_at, ran, ran_over, set_twice, stands_at, taken_out, there, within_at}
+use Rattle.session_core.proofs.Stepping.{left_open, opened_at, ran, ran_over, stands_at, taken_out, there, within_at}
 use Rattle.session_core.proofs.live.Live.run.Goals as goal
 
 pub run_statement-requires-clause-opened : goal.run_statement-requires-clause-opened
