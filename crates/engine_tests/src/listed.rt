@@ -1,4 +1,4 @@
-//! Where there is memory, a statement is answered however much it lists and however much it goes over: columns, keys, tables, values, rows and targets.
+//! Where there is memory, a statement is answered however much it lists and however much it goes over: columns, items, keys, tables, values, letters, rows and targets.
 
 use crate::trial::{at_last, holds};
 use row_versions::ListStore;
@@ -7,7 +7,7 @@ use sql_parser::{Block, Role, parse_block};
 use std::alloc::{AllocError, Global};
 use std::process::Abort;
 
-const SIZES: [usize; 7] = [0, 1, 5, 9, 41, 101, 1_001];
+const SIZES: [usize; 8] = [0, 1, 5, 9, 41, 101, 1_001, 5_001];
 
 /// A text that lists: what stands before the list, before and behind the number of each of its parts, and behind the list. Where nothing stands before a part there is no list.
 type Parts = [&'static str; 4];
@@ -73,7 +73,33 @@ const COMMITS: (u32, Parts) = (2, ["COMMIT", "", "", ""]);
 
 const SKIPS: (u32, Parts) = (1, ["SELECT x FROM t FOR UPDATE SKIP LOCKED", "", "", ""]);
 
-const CASES: [Case; 12] = [
+/// The row's text is its key.
+const LETTERS: (u32, Parts) = (1, ["INSERT INTO t VALUES ('x", "a", "", "')"]);
+
+const ADDS_A_LETTER: (u32, Parts) = (
+    1,
+    [
+        "UPDATE t SET x = x || 'b' WHERE x >= 'x' RETURNING x",
+        "",
+        "",
+        "",
+    ],
+);
+
+const SEVEN: (u32, Parts) = (1, ["INSERT INTO t VALUES (7)", "", "", ""]);
+
+const ITEMS: (u32, Parts) = (1, ["SELECT x", ", x + ", "", " FROM t"]);
+
+const RETURNED: (u32, Parts) = (
+    1,
+    ["INSERT INTO t VALUES (7) RETURNING x", ", x + ", "", ""],
+);
+
+const SORT_KEYS: (u32, Parts) = (1, ["SELECT x FROM t ORDER BY x", ", x + ", "", ""]);
+
+const MEMBERS: (u32, Parts) = (1, ["SELECT x FROM t WHERE x NOT IN (-1", ", -", "", ")"]);
+
+const CASES: [Case; 17] = [
     Case {
         of: "columns that are read",
         lines: &[WIDE, ONE_ROW, SORTED],
@@ -174,6 +200,40 @@ const CASES: [Case; 12] = [
         most: 101,
     },
     Case {
+        of: "items of a select list",
+        lines: &[TABLE, SEVEN, ITEMS],
+        answer: Some((ONE, EACH_AND_ONE)),
+        most: 1_001,
+    },
+    Case {
+        of: "items of RETURNING",
+        lines: &[TABLE, RETURNED],
+        answer: Some((ONE, EACH_AND_ONE)),
+        most: 1_001,
+    },
+    Case {
+        of: "keys to sort by",
+        lines: &[TABLE, SEVEN, SORT_KEYS],
+        answer: Some((ONE, ONE)),
+        most: 1_001,
+    },
+    Case {
+        of: "members of a list",
+        lines: &[TABLE, SEVEN, MEMBERS],
+        answer: Some((ONE, ONE)),
+        most: 1_001,
+    },
+    Case {
+        of: "letters",
+        lines: &[
+            (0, ["CREATE TABLE t (x text PRIMARY KEY)", "", "", ""]),
+            LETTERS,
+            ADDS_A_LETTER,
+        ],
+        answer: Some((ONE, ONE)),
+        most: 5_001,
+    },
+    Case {
         of: "names of no table",
         lines: &[(0, ["DROP TABLE IF EXISTS t", ", t", "", ""])],
         answer: None,
@@ -228,13 +288,13 @@ fn blocks<'t>(alloc: Global, texts: &'t [(u32, String)]) -> Result<Vec<Block<'t>
     Ok(all)
 }
 
-/// Steps until nothing goes on by itself.
+/// Steps until nothing goes on by itself. Each reply is given as well as kept.
 fn rest(engine: &mut EngineState<'_, '_, ListStore>) -> Result<(), EngineFault> {
     for _ in 0..256 {
         let Turn::Session(session) = engine.turn() else {
             return Ok(());
         };
-        engine.perform(Event::Step { session })?;
+        let _reply = engine.step(session)?;
     }
     Err(EngineFault::NotYourTurn)
 }

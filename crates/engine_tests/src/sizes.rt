@@ -1,7 +1,7 @@
 //! Where there is memory, each call that may want some answers, however much it lists: events, rows, blocks and sessions.
 
 use crate::trial::{Engine, Line, at_last, block, blocks, engine_of, holds, is_legal, run};
-use session_core::{EngineFault, Mode, Outcome};
+use session_core::{EngineFault, Mode, Outcome, Reply};
 use sql_parser::{Block, Role};
 use std::alloc::{AllocError, Global};
 use std::process::Abort;
@@ -57,15 +57,19 @@ const ROWS: [Line; 5] = [
     (1, "DELETE FROM t", ""),
 ];
 
-/// Whether the last reply is that a statement is done, or a result of so many rows.
-fn is_done(engine: &Engine<'_>, count: usize) -> bool {
-    match engine.history().last() {
-        Some(item) => match &item.reply.outcome {
-            Outcome::Rows(set) => set.rows().len() == count,
-            Outcome::Done => true,
-            _ => false,
-        },
-        None => false,
+/// What session 1 is answered, which is given this block of one statement.
+fn answer_to(engine: &mut Engine<'_>, block: u32) -> Result<Outcome<'static>, EngineFault> {
+    engine.launch(1, block)?;
+    let Reply { outcome, .. } = engine.step(1)?;
+    Ok(outcome)
+}
+
+/// Whether that is that the statement is done, or a result of so many rows.
+fn is_done(outcome: &Outcome<'_>, count: usize) -> bool {
+    match outcome {
+        Outcome::Rows(set) => set.rows().len() == count,
+        Outcome::Done => true,
+        _ => false,
     }
 }
 
@@ -91,8 +95,8 @@ fn over_rows(
         answered(run(&mut engine, 1, 1))?;
     }
     holds(rt, shows(&engine, count)?, "rows that are seen");
-    answered(run(&mut engine, 1, statement))?;
-    holds(rt, is_done(&engine, count), "rows that are gone over");
+    let outcome = answered(answer_to(&mut engine, statement))?;
+    holds(rt, is_done(&outcome, count), "rows that are gone over");
     Ok(())
 }
 

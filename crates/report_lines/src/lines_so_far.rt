@@ -70,7 +70,8 @@ fn is_chosen(run: &RunSoFar<'_>, m: Moment, chosen: Chosen, entry: usize) -> boo
 impl LinesSoFar {
     /// With room for so many entries, each of which has two lines at most.
     pub(crate) fn new(alloc: Global, entries: usize) -> Result<LinesSoFar, AllocError>
-        ensures { IfOk result (λ so_far. so_far ≡ record { lines = []; launched = 0 }) }
+        ensures empty { IfOk result (λ so_far. so_far ≡ record { lines = []; launched = 0 }) }
+        ensures memory { OnErr result (0 < entries) }
     {
         Ok(LinesSoFar {
             lines: Vec::with_capacity(alloc, entries.saturating_mul(2))?,

@@ -1,5 +1,5 @@
 //! The next order of a permutation, from its history alone.
-ghost use Rattle.std.specs.Prelude.{◌≡◌, ◌+◌, ◌-◌, ◌<◌, ◌≤◌, ◌^◌, ℕ, not, ◌&&◌, length, map, slice_get, unwrap_or, IfOk, OnOk, OnErr, drop, Option, Some, None};
+ghost use Rattle.std.specs.Prelude.{◌≡◌, ◌≢◌, ◌+◌, ◌-◌, ◌<◌, ◌≤◌, ◌^◌, ◌⊎◌, ℕ, [], not, ◌&&◌, length, map, slice_get, unwrap_or, IfOk, OnOk, OnErr, drop, Option, Some, None};
 ghost use Rattle.std.specs.Option.{option_map_or};
 ghost use Rattle.spec_parser.specs.Trees.{entry_view};
 ghost use Rattle.report_lines.specs.Due.{is_over, went_well, orders, launch, due_setup, teardowns_so_far, due_entry, due};
@@ -186,7 +186,9 @@ impl<'a> PlannedRun<'a> {
 
     /// The next order. Fails only where memory is refused.
     pub fn due(&self, alloc: Global) -> Result<Order, AllocError>
-        ensures { IfOk result (λ order. order ≡ due self.now.launches self.now.run (orders self.now.run.items)) }
+        ensures order { IfOk result (λ order. order ≡ due self.now.launches self.now.run (orders self.now.run.items)) }
+        // Without entries and items there is nothing to keep.
+        ensures memory { OnErr result ((self.now.run.entries ≢ []) ⊎ (self.now.run.items ≢ [])) }
     {
         let mut progress = PlanProgress::new(alloc, self.entries, self.setups.len())?;
         self.go_on(alloc, &mut progress)

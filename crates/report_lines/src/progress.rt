@@ -1,5 +1,5 @@
 //! What is kept of a permutation between two of its orders, so that its plan goes on from where it stood.
-ghost use Rattle.std.specs.Prelude.{◌≡◌, ◌+◌, ◌-◌, ◌<◌, ◌≤◌, ◌^◌, ◌++◌, ◌⊎◌, [], ◌∷◌, length, IfOk, OnOk, OnErr, IsTrue, true};
+ghost use Rattle.std.specs.Prelude.{◌≡◌, ◌≢◌, ◌+◌, ◌-◌, ◌<◌, ◌≤◌, ◌^◌, ◌++◌, ◌⊎◌, [], ◌∷◌, length, IfOk, OnOk, OnErr, IsTrue, true};
 ghost use Rattle.report_lines.specs.Starts.{is_order};
 ghost use Rattle.report_lines.specs.Due.{orders};
 ghost use Rattle.report_lines.specs.Report.{report};
@@ -33,8 +33,12 @@ pub struct PlanProgress {
 
 /// As many zeros as the entries' sessions need.
 fn no_ends(alloc: Global, entries: &[Entry]) -> Result<Vec<usize>, AllocError>
-    ensures { IfOk result (λ last. IsZeros last.items) }
+    ensures zeros { IfOk result (λ last. IsZeros last.items) }
+    ensures memory { OnErr result (entries.now ≢ []) }
 {
+    if entries.is_empty() {
+        return Ok(Vec::new(alloc));
+    }
     let mut sessions = 0;
     for entry in entries {
         sessions = sessions.max(entry.session as usize + 1);
@@ -75,7 +79,8 @@ impl PlanProgress {
     /// Before anything has come.
     pub fn new(alloc: Global, entries: &[Entry], setups: usize) -> Result<PlanProgress, AllocError>
         requires { setups + length entries.now + 1 < 2 ^ 64 }
-        ensures { IfOk result (λ p. Keeps (permutation_run entries.now [] setups) p) }
+        ensures kept { IfOk result (λ p. Keeps (permutation_run entries.now [] setups) p) }
+        ensures memory { OnErr result (entries.now ≢ []) }
     {
         let last = no_ends(alloc, entries)?;
         let so_far = LinesSoFar::new(alloc, entries.len())?;
@@ -241,7 +246,9 @@ impl PlanProgress {
 
 /// The lines of the entries, and how far they have come.
 pub fn report(alloc: Global, run: &PermutationRun<'_>) -> Result<(LinesSoFar, RunState), AllocError>
-    ensures { IfOk result (λ reported. report run.now (orders run.now.items - run.now.setups) ≡ record { lines = reported.0.lines; state = reported.1 }) }
+    ensures report { IfOk result (λ reported. report run.now (orders run.now.items - run.now.setups) ≡ record { lines = reported.0.lines; state = reported.1 }) }
+    // Without entries and items there is nothing to tell.
+    ensures memory { OnErr result ((run.now.entries ≢ []) ⊎ (run.now.items ≢ [])) }
 {
     let mut progress = PlanProgress::new(alloc, run.entries(), run.setups())?;
     progress.reach(alloc, run.entries(), run.setups(), run.items())?;

@@ -6,8 +6,8 @@ use Rattle.report_lines.proofs.Keeping.{settled_tells}
 use Rattle.report_lines.proofs.Same.{report_is}
 use Rattle.report_lines.proofs.progress.report.Goals as goal
 
-pub returns : goal.returns
-returns c =
+pub returns-clause-report : goal.returns-clause-report
+returns-clause-report c =
     let run = c.args.run.now in
     report_is run (orders run.items - run.setups)
     ∙ settled_tells run c.reach.new.self
