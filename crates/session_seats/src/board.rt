@@ -15,8 +15,8 @@ pub const MOST_RUNS: usize = 64;
 /// How often a thread looks at its desk before it sleeps.
 const FEW_LOOKS: usize = 20;
 
-/// How often where it looks for a while, in a crew of one run: it takes about as long to be woken. In a crew of many runs a thread
-/// waits longer, for something to be done in each of them.
+/// How often where it looks for a while, in a crew of one run: it takes about as long to be woken. In a crew of more runs a thread
+/// waits longer, for something to be done in several of them.
 const MANY_LOOKS: usize = 1500;
 
 /// How often in a row a thread doesn't look for a while, at most.
@@ -41,7 +41,7 @@ impl Patience {
     /// In a crew of so many runs.
     fn new(runs: usize) -> Patience {
         Patience {
-            looks: (MANY_LOOKS / runs.max(1)).max(FEW_LOOKS),
+            looks: if runs == 1 { MANY_LOOKS } else { FEW_LOOKS },
             doubt: AtomicUsize::new(0),
             without: AtomicUsize::new(0),
         }
