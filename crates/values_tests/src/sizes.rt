@@ -4,6 +4,7 @@ ghost use Rattle.std.specs.Prelude.{◌≡◌};
 use crate::sorting::{ASCENDING, is_order};
 use crate::summing::gives_of;
 use crate::told::{at_last, holds};
+use chain_store::ChainStore;
 use iso_lexer::Name;
 use query_results::{ResultSet, Title};
 use row_versions::{ListStore, RowId, TableId, TxId, Versions, View};
@@ -34,17 +35,21 @@ enum Call {
     RowCopied,
     /// `ResultSet::copied`, of columns.
     ResultCopied,
-    /// `begin`, `write` and `rows`, of transactions that each write a row.
+    /// `write` and `rows`, of rows.
     Rows,
-    /// `note` and `find`, of transactions that hold a key.
+    /// The same by the store that links versions.
+    LinkedRows,
+    /// `begin`, `note` and `find`, of transactions that hold a key.
     Holders,
+    /// The same over the store that links versions.
+    LinkedHolders,
     /// `check`, of keys of a table.
     Keys,
     /// `check`, of columns of a key.
     KeyColumns,
 }
 
-const CALLS: [(Call, &'static str); 11] = [
+const CALLS: [(Call, &'static str); 13] = [
     (Call::Literal, "a string"),
     (Call::Joined, "joined strings"),
     (Call::Listed, "a list"),
@@ -53,7 +58,9 @@ const CALLS: [(Call, &'static str); 11] = [
     (Call::RowCopied, "a row's copy"),
     (Call::ResultCopied, "a result's copy"),
     (Call::Rows, "rows of a table"),
+    (Call::LinkedRows, "linked rows of a table"),
     (Call::Holders, "holders of a key"),
+    (Call::LinkedHolders, "holders of a key over linked rows"),
     (Call::Keys, "keys of a table"),
     (Call::KeyColumns, "columns of a key"),
 ];
@@ -232,35 +239,43 @@ fn keys_on(alloc: Global, count: u32, columns: u32) -> Result<TableKeys, AllocEr
 }
 
 /// So many transactions have each written a row of 1.
-fn written(alloc: Global, size: u32) -> Result<(ListStore, KeyIndex), AllocError> {
+fn written<V: Versions>(alloc: Global, store: &mut V, size: u32) -> Result<KeyIndex, AllocError> {
     let keys = keys_on(alloc, 1, 1)?;
-    let mut store = ListStore::new(alloc);
     let mut index = KeyIndex::new(alloc);
     for _ in 0..size {
         let tx = store.begin()?;
-        write_one(alloc, &mut store, &mut index, &keys, tx)?;
+        write_one(alloc, store, &mut index, &keys, tx)?;
     }
-    Ok((store, index))
+    Ok(index)
 }
 
-/// The one that asks sees its own row alone, as each does.
-fn rows_are_shown(alloc: Global, size: u32) -> Result<bool, AllocError> {
-    let (store, _) = written(alloc, size)?;
+/// A transaction sees all rows that it has written.
+fn rows_are_shown<V: Versions>(
+    alloc: Global,
+    store: &mut V,
+    size: u32,
+) -> Result<bool, AllocError> {
+    let tx = store.begin()?;
+    for _ in 0..size {
+        let Ok(_row) = store.write(tx, 0, TABLE, None, Some(one(alloc, 1)?)) else {
+            return Err(AllocError);
+        };
+    }
     let view = View {
-        tx: Some(TxId(0)),
+        tx: Some(tx),
         commits: 0,
         command: 1,
     };
     let rows = store.rows(&view, TABLE)?;
-    Ok(rows.len() == size.min(1) as usize)
+    Ok(rows.len() == size as usize)
 }
 
-fn all_hold(alloc: Global, size: u32) -> Result<bool, AllocError> {
-    let (store, index) = written(alloc, size)?;
+fn all_hold<V: Versions>(alloc: Global, store: &mut V, size: u32) -> Result<bool, AllocError> {
+    let index = written(alloc, store, size)?;
     let asked = one(alloc, 1)?;
     let asks = TxId(size as u64);
     Ok(
-        match index.find(&store, TABLE, &[0], asked.values(), asks, None)? {
+        match index.find(store, TABLE, &[0], asked.values(), asks, None)? {
             Found::Free => size == 0,
             Found::Taken(_) => false,
             Found::Held(by) => by.len() == size as usize,
@@ -297,8 +312,10 @@ fn succeeds(alloc: Global, call: Call, size: u32) -> Result<bool, AllocError> {
         Call::Summed => summed(alloc, size),
         Call::RowCopied => row_copied(alloc, size),
         Call::ResultCopied => result_copied(alloc, size),
-        Call::Rows => rows_are_shown(alloc, size),
-        Call::Holders => all_hold(alloc, size),
+        Call::Rows => rows_are_shown(alloc, &mut ListStore::new(alloc), size),
+        Call::LinkedRows => rows_are_shown(alloc, &mut ChainStore::new(alloc), size),
+        Call::Holders => all_hold(alloc, &mut ListStore::new(alloc), size),
+        Call::LinkedHolders => all_hold(alloc, &mut ChainStore::new(alloc), size),
         Call::Keys => keys_are_free(alloc, size),
         Call::KeyColumns => columns_are_free(alloc, size),
     }
