@@ -11,6 +11,10 @@ mod devices;
 #[cfg(test)]
 mod files;
 #[cfg(test)]
+mod listing;
+#[cfg(test)]
 mod rows;
 #[cfg(test)]
 mod seats;
+#[cfg(test)]
+mod sizes;
