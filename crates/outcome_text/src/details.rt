@@ -1,8 +1,8 @@
 //! What is said of each outcome below the table.
 
-use crate::cells::{answers_cell, one_line, table_cell};
-use crate::names::{outcome_name, permutation_text, sessions_text};
-use outcome_counts::{Group, RunOutcome, same_answers, same_table};
+use crate::cells::{Part, put_joined};
+use crate::names::{put_outcome_name, put_permutation, put_sessions};
+use outcome_counts::{Group, RunOutcome};
 use outcome_verdicts::{SerialOrder, Verdict};
 use run_outcomes::{Judged, Outcomes};
 use spec_parser::Spec;
@@ -11,46 +11,61 @@ use std::alloc::{AllocError, Global};
 /// In how many steps and tables two outcomes differ.
 fn distance(a: &RunOutcome<'_>, b: &RunOutcome<'_>) -> usize {
     let mut number = 0usize;
-    for (x, y) in a.answers.iter().zip(b.answers.iter()) {
-        if !same_answers(x, y) {
+    for at in 0..a.answers.len() {
+        if !Part::Step(at).is_same(a, b) {
             number = number.saturating_add(1);
         }
     }
-    for (x, y) in a.tables.iter().zip(b.tables.iter()) {
-        if !same_table(x, y) {
+    for at in 0..a.tables.len() {
+        if !Part::Table(at).is_same(a, b) {
             number = number.saturating_add(1);
         }
     }
     number
 }
 
-/// The place of the order whose outcome differs least.
-pub fn nearest_of(orders: &[SerialOrder<'_>], outcome: &RunOutcome<'_>) -> Option<usize> {
+/// The order whose outcome differs least.
+pub fn nearest_of<'o, 't>(
+    orders: &'o [SerialOrder<'t>],
+    outcome: &RunOutcome<'_>,
+) -> Option<&'o SerialOrder<'t>> {
     let mut nearest = None;
     let mut least = usize::MAX;
-    for (at, order) in orders.iter().enumerate() {
+    for order in orders {
         let number = distance(&order.outcome, outcome);
         if number < least {
             least = number;
-            nearest = Some(at);
+            nearest = Some(order);
         }
     }
     nearest
 }
 
 /// Puts what a step or a table is in the serial order.
-fn put_where(
+fn put_where(out: &mut String, name: &str, cell: &str, is_first: bool) -> Result<(), AllocError> {
+    out.push_str(if is_first { ", where " } else { ", " })?;
+    out.push_str(name)?;
+    out.push_str(" gives ")?;
+    put_joined(out, cell, "; ")
+}
+
+/// Puts in what the order's outcome differs in a part, and says whether it does.
+fn put_difference(
     alloc: Global,
     out: &mut String,
     name: &str,
-    cell: &[String],
+    part: Part,
+    outcome: &RunOutcome<'_>,
+    serial: &RunOutcome<'_>,
     is_first: bool,
-) -> Result<(), AllocError> {
-    out.push_str(if is_first { ", where " } else { ", " })?;
-    let text = one_line(alloc, cell)?;
-    let shown = text.as_str();
-    let said = format!(in alloc; "{name} gives {shown}")?;
-    out.push_str(said.as_str())
+) -> Result<bool, AllocError> {
+    if part.is_same(outcome, serial) {
+        return Ok(false);
+    }
+    let mut cell = String::new(alloc);
+    part.put(&mut cell, serial)?;
+    put_where(out, name, cell.as_str(), is_first)?;
+    Ok(true)
 }
 
 /// Puts in what the order's outcome differs.
@@ -64,24 +79,32 @@ pub fn put_differences(
 ) -> Result<(), AllocError> {
     let mut is_first = true;
     for (at, name) in steps.iter().enumerate() {
-        if let (Some(x), Some(y)) = (outcome.answers.get(at), serial.answers.get(at)) {
-            if !same_answers(x, y) {
-                let cell = answers_cell(alloc, y)?;
-                put_where(alloc, out, name.as_str(), &cell, is_first)?;
-                is_first = false;
-            }
+        let name = name.as_str();
+        if put_difference(alloc, out, name, Part::Step(at), outcome, serial, is_first)? {
+            is_first = false;
         }
     }
     for (at, name) in tables.iter().enumerate() {
-        if let (Some(x), Some(y)) = (outcome.tables.get(at), serial.tables.get(at)) {
-            if !same_table(x, y) {
-                let cell = table_cell(alloc, y)?;
-                put_where(alloc, out, name.as_str(), &cell, is_first)?;
-                is_first = false;
-            }
+        let name = name.as_str();
+        if put_difference(alloc, out, name, Part::Table(at), outcome, serial, is_first)? {
+            is_first = false;
         }
     }
     Ok(())
+}
+
+/// Puts a serial order, and in what its outcome differs.
+pub fn put_order(
+    alloc: Global,
+    out: &mut String,
+    spec: &Spec<'_>,
+    steps: &[String],
+    tables: &[String],
+    outcome: &RunOutcome<'_>,
+    order: &SerialOrder<'_>,
+) -> Result<(), AllocError> {
+    put_sessions(alloc, out, spec, &order.sessions)?;
+    put_differences(alloc, out, steps, tables, outcome, &order.outcome)
 }
 
 /// Puts the serial order that is nearest to an outcome.
@@ -94,16 +117,26 @@ fn put_nearest(
     outcome: &RunOutcome<'_>,
     judged: &Judged<'_>,
 ) -> Result<(), AllocError> {
-    let Some(at) = nearest_of(&judged.orders, outcome) else {
+    let Some(order) = nearest_of(&judged.orders, outcome) else {
         return out.push_str("     no order of the transactions is serial\n");
     };
-    let Some(order) = judged.orders.get(at) else {
-        return Ok(());
-    };
     out.push_str("     nearest: ")?;
-    let sessions = sessions_text(alloc, spec, &order.sessions)?;
-    out.push_str(sessions.as_str())?;
-    put_differences(alloc, out, steps, tables, outcome, &order.outcome)?;
+    put_order(alloc, out, spec, steps, tables, outcome, order)?;
+    out.push('\n')
+}
+
+/// Puts the name of an outcome, and its permutation.
+fn put_first(
+    alloc: Global,
+    out: &mut String,
+    spec: &Spec<'_>,
+    number: usize,
+    group: &Group<'_>,
+) -> Result<(), AllocError> {
+    out.push_str("  ")?;
+    put_outcome_name(out, number)?;
+    out.push_str(": ")?;
+    put_permutation(alloc, out, spec, &group.nearest)?;
     out.push('\n')
 }
 
@@ -118,16 +151,13 @@ fn put_detail(
     group: &Group<'_>,
     judged: &Judged<'_>,
 ) -> Result<(), AllocError> {
-    let name = outcome_name(alloc, number)?;
-    let line = permutation_text(alloc, spec, &group.nearest)?;
-    let shown = name.as_str();
-    let words = line.as_str();
-    let said = format!(in alloc; "  {shown}: {words}\n")?;
-    out.push_str(said.as_str())?;
-    if let Verdict::NotSerial = judged.verdict {
-        put_nearest(alloc, out, spec, steps, tables, &group.outcome, judged)?;
+    put_first(alloc, out, spec, number, group)?;
+    match judged.verdict {
+        Verdict::NotSerial => {
+            put_nearest(alloc, out, spec, steps, tables, &group.outcome, judged)
+        }
+        _ => Ok(()),
     }
-    Ok(())
 }
 
 /// Puts the permutations of all outcomes.
@@ -138,18 +168,10 @@ pub fn put_details(
     steps: &[String],
     outcomes: &Outcomes<'_>,
 ) -> Result<(), AllocError> {
+    let tables = outcomes.tables.as_slice();
     for (number, group) in outcomes.counted.groups.iter().enumerate() {
         if let Some(judged) = outcomes.judged.get(number) {
-            put_detail(
-                alloc,
-                out,
-                spec,
-                steps,
-                &outcomes.tables,
-                number,
-                group,
-                judged,
-            )?;
+            put_detail(alloc, out, spec, steps, tables, number, group, judged)?;
         }
     }
     Ok(())

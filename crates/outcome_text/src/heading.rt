@@ -1,83 +1,71 @@
 //! How many permutations and outcomes there are, in a line or two.
 
 use outcome_verdicts::Verdict;
-use run_outcomes::Outcomes;
-use std::alloc::{AllocError, Global};
+use run_outcomes::{Judged, Outcomes};
+use std::alloc::AllocError;
+use std::fmt::Write;
 
-/// How many outcomes no serial order has.
-pub fn not_serial(outcomes: &Outcomes<'_>) -> usize {
+/// How many of these outcomes no serial order has.
+fn not_serial_in(judged: &[Judged<'_>]) -> usize {
     let mut number = 0usize;
-    for judged in &outcomes.judged {
-        if let Verdict::NotSerial = judged.verdict {
+    for one in judged {
+        if let Verdict::NotSerial = one.verdict {
             number = number.saturating_add(1);
         }
     }
     number
 }
 
-fn put_count(
-    alloc: Global,
-    out: &mut String,
-    number: u64,
-    one: &str,
-    more: &str,
-) -> Result<(), AllocError> {
-    let word = if number == 1 { one } else { more };
-    let text = format!(in alloc; "{number} {word}")?;
-    out.push_str(text.as_str())
+/// How many outcomes no serial order has.
+pub fn not_serial(outcomes: &Outcomes<'_>) -> usize {
+    not_serial_in(&outcomes.judged)
 }
 
-/// Puts how many permutations run.
+/// Puts how many there are, and whether one or more.
+fn put_count(out: &mut String, number: u64, one: &str, more: &str) -> Result<(), AllocError> {
+    let word = if number == 1 { one } else { more };
+    write!(out, "{number} {word}")
+}
+
+/// The same behind a comma; nothing where there are none.
+fn put_further(out: &mut String, number: u64, one: &str, more: &str) -> Result<(), AllocError> {
+    if number == 0 {
+        return Ok(());
+    }
+    out.push_str(", ")?;
+    put_count(out, number, one, more)
+}
+
+/// Puts how many permutations run, and how many don't.
 fn put_permutations(
-    alloc: Global,
     out: &mut String,
-    outcomes: &Outcomes<'_>,
+    all: u64,
+    blocked: u64,
+    waiting: u64,
 ) -> Result<(), AllocError> {
-    let run = outcomes
-        .permutations
-        .saturating_sub(outcomes.counted.blocked)
-        .saturating_sub(outcomes.counted.waiting);
-    put_count(
-        alloc,
+    let run = all.saturating_sub(blocked).saturating_sub(waiting);
+    put_count(out, all, "permutation: ", "permutations: ")?;
+    put_count(out, run, "runs", "run")?;
+    put_further(
         out,
-        outcomes.permutations,
-        "permutation: ",
-        "permutations: ",
+        blocked,
+        "starts a step whose session waits",
+        "start a step whose session waits",
     )?;
-    put_count(alloc, out, run, "runs", "run")?;
-    if outcomes.counted.blocked > 0 {
-        out.push_str(", ")?;
-        put_count(
-            alloc,
-            out,
-            outcomes.counted.blocked,
-            "starts a step whose session waits",
-            "start a step whose session waits",
-        )?;
-    }
-    if outcomes.counted.waiting > 0 {
-        out.push_str(", ")?;
-        put_count(
-            alloc,
-            out,
-            outcomes.counted.waiting,
-            "ends with a step that waits",
-            "end with a step that waits",
-        )?;
-    }
-    out.push_str(". ")
+    put_further(
+        out,
+        waiting,
+        "ends with a step that waits",
+        "end with a step that waits",
+    )
 }
 
 /// Puts the first line.
-pub fn put_heading(
-    alloc: Global,
-    out: &mut String,
-    outcomes: &Outcomes<'_>,
-) -> Result<(), AllocError> {
-    put_permutations(alloc, out, outcomes)?;
-    let number = outcomes.judged.len() as u64;
-    put_count(alloc, out, number, "outcome", "outcomes")?;
+pub fn put_heading(out: &mut String, outcomes: &Outcomes<'_>) -> Result<(), AllocError> {
+    let counted = &outcomes.counted;
+    put_permutations(out, outcomes.permutations, counted.blocked, counted.waiting)?;
+    let number = outcomes.judged.len();
+    let word = if number == 1 { "outcome" } else { "outcomes" };
     let bad = not_serial(outcomes);
-    let text = format!(in alloc; ", {bad} in no serial order.\n")?;
-    out.push_str(text.as_str())
+    write!(out, ". {number} {word}, {bad} in no serial order.\n")
 }

@@ -1,20 +1,13 @@
 //! The interleaving of an outcome, drawn: a column for each session, and a row for each step in the order in which they start.
 
-use crate::cells::answers_cell;
+use crate::cells::Part;
 use crate::markup::{put_in, put_lines};
-use outcome_counts::{RunOutcome, same_answers};
+use outcome_counts::RunOutcome;
 use outcome_verdicts::step_number;
 use run_outcomes::written;
-use spec_parser::{Entry, Spec};
+use spec_parser::{Entry, SessionPart, Spec, StepPart};
 use std::alloc::{AllocError, Global};
-
-/// Whether a step answered otherwise in the serial order.
-fn differs(outcome: &RunOutcome<'_>, serial: &RunOutcome<'_>, number: usize) -> bool {
-    match (outcome.answers.get(number), serial.answers.get(number)) {
-        (Some(x), Some(y)) => !same_answers(x, y),
-        _ => false,
-    }
-}
+use std::fmt::Write;
 
 /// Puts what a step answered.
 fn put_answers(
@@ -22,28 +15,42 @@ fn put_answers(
     out: &mut String,
     open: &str,
     outcome: &RunOutcome<'_>,
-    number: usize,
+    part: Part,
 ) -> Result<(), AllocError> {
-    if let Some(answers) = outcome.answers.get(number) {
-        let lines = answers_cell(alloc, answers)?;
-        put_lines(out, open, &lines, "</span>")?;
-    }
-    Ok(())
+    let mut cell = String::new(alloc);
+    part.put(&mut cell, outcome)?;
+    put_lines(out, open, cell.as_str(), "</span>")
 }
 
 /// Puts the name of a step, and its SQL.
-fn put_step(
+fn put_step(alloc: Global, out: &mut String, step: &StepPart<'_>) -> Result<(), AllocError> {
+    let name = written(alloc, &step.name)?;
+    put_in(out, "<b>", name.as_str(), "</b>")?;
+    put_in(out, "<span class=\"sql\">", step.part.sql.trim(), "</span>")
+}
+
+fn put_own(
     alloc: Global,
     out: &mut String,
     spec: &Spec<'_>,
     entry: &Entry,
 ) -> Result<(), AllocError> {
-    if let Some(step) = spec.step_of(entry) {
-        let name = written(alloc, &step.name)?;
-        put_in(out, "<b>", name.as_str(), "</b>")?;
-        put_in(out, "<span class=\"sql\">", step.part.sql.trim(), "</span>")?;
+    match spec.step_of(entry) {
+        Some(step) => put_step(alloc, out, step),
+        None => Ok(()),
     }
-    Ok(())
+}
+
+/// The outcome of the serial order, if the step answered otherwise there.
+fn other<'o, 't>(
+    part: Part,
+    outcome: &RunOutcome<'_>,
+    serial: Option<&'o RunOutcome<'t>>,
+) -> Option<&'o RunOutcome<'t>> {
+    match serial {
+        Some(other) if !part.is_same(outcome, other) => Some(other),
+        _ => None,
+    }
 }
 
 /// Puts the cell of a step, marked where the nearest serial order has another answer.
@@ -55,18 +62,39 @@ fn put_cell(
     outcome: &RunOutcome<'_>,
     serial: Option<&RunOutcome<'_>>,
 ) -> Result<(), AllocError> {
-    let number = step_number(spec, entry.session, entry.step);
-    if let Some(other) = serial {
-        if differs(outcome, other, number) {
-            out.push_str("<td class=\"step differs\">")?;
-            put_step(alloc, out, spec, entry)?;
-            put_answers(alloc, out, "<span class=\"answer\">", outcome, number)?;
-            return put_answers(alloc, out, "<span class=\"mark\">serial: ", other, number);
-        }
+    let part = Part::Step(step_number(spec, entry.session, entry.step));
+    let other = other(part, outcome, serial);
+    out.push_str(if other.is_some() {
+        "<td class=\"step differs\">"
+    } else {
+        "<td class=\"step\">"
+    })?;
+    put_own(alloc, out, spec, entry)?;
+    put_answers(alloc, out, "<span class=\"answer\">", outcome, part)?;
+    match other {
+        Some(other) => put_answers(alloc, out, "<span class=\"mark\">serial: ", other, part),
+        None => Ok(()),
     }
-    out.push_str("<td class=\"step\">")?;
-    put_step(alloc, out, spec, entry)?;
-    put_answers(alloc, out, "<span class=\"answer\">", outcome, number)
+}
+
+/// Puts the cells of a step's row.
+fn put_cells(
+    alloc: Global,
+    out: &mut String,
+    spec: &Spec<'_>,
+    entry: &Entry,
+    outcome: &RunOutcome<'_>,
+    serial: Option<&RunOutcome<'_>>,
+) -> Result<(), AllocError> {
+    for place in 1..spec.sessions.len().saturating_add(1) {
+        if place == entry.session as usize {
+            put_cell(alloc, out, spec, entry, outcome, serial)?;
+        } else {
+            out.push_str("<td>")?;
+        }
+        out.push_str("</td>")?;
+    }
+    Ok(())
 }
 
 /// Puts the row of a step.
@@ -79,27 +107,43 @@ fn put_row(
     outcome: &RunOutcome<'_>,
     serial: Option<&RunOutcome<'_>>,
 ) -> Result<(), AllocError> {
-    let row = format!(in alloc; "<tr><th scope=\"row\" class=\"number\">{number}</th>")?;
-    out.push_str(row.as_str())?;
-    for place in 1..spec.sessions.len().saturating_add(1) {
-        if place == entry.session as usize {
-            put_cell(alloc, out, spec, entry, outcome, serial)?;
-            out.push_str("</td>")?;
-        } else {
-            out.push_str("<td></td>")?;
-        }
-    }
+    write!(out, "<tr><th scope=\"row\" class=\"number\">{number}</th>")?;
+    put_cells(alloc, out, spec, entry, outcome, serial)?;
     out.push_str("</tr>\n")
 }
 
 /// Puts the names of the sessions.
-fn put_heads(alloc: Global, out: &mut String, spec: &Spec<'_>) -> Result<(), AllocError> {
-    out.push_str("<thead><tr><th scope=\"col\" class=\"number\">#</th>")?;
-    for session in &spec.sessions {
+fn put_names(
+    alloc: Global,
+    out: &mut String,
+    sessions: &[SessionPart<'_>],
+) -> Result<(), AllocError> {
+    for session in sessions {
         let name = written(alloc, &session.name)?;
         put_in(out, "<th scope=\"col\">", name.as_str(), "</th>")?;
     }
-    out.push_str("</tr></thead>\n")
+    Ok(())
+}
+
+fn put_heads(alloc: Global, out: &mut String, spec: &Spec<'_>) -> Result<(), AllocError> {
+    out.push_str("<thead><tr><th scope=\"col\" class=\"number\">#</th>")?;
+    put_names(alloc, out, &spec.sessions)?;
+    out.push_str("</tr></thead>\n<tbody>\n")
+}
+
+fn put_rows(
+    alloc: Global,
+    out: &mut String,
+    spec: &Spec<'_>,
+    entries: &[Entry],
+    outcome: &RunOutcome<'_>,
+    serial: Option<&RunOutcome<'_>>,
+) -> Result<(), AllocError> {
+    for (at, entry) in entries.iter().enumerate() {
+        let number = at.saturating_add(1);
+        put_row(alloc, out, spec, number, entry, outcome, serial)?;
+    }
+    Ok(())
 }
 
 /// Puts the interleaving of these entries, which has this outcome; steps that answer otherwise in the serial one are marked.
@@ -115,17 +159,6 @@ pub fn put_interleaving(
         "<div class=\"scroll\" role=\"region\" aria-label=\"interleaving\" tabindex=\"0\"><table class=\"run\">\n",
     )?;
     put_heads(alloc, out, spec)?;
-    out.push_str("<tbody>\n")?;
-    for (at, entry) in entries.iter().enumerate() {
-        put_row(
-            alloc,
-            out,
-            spec,
-            at.saturating_add(1),
-            entry,
-            outcome,
-            serial,
-        )?;
-    }
+    put_rows(alloc, out, spec, entries, outcome, serial)?;
     out.push_str("</tbody></table></div>\n")
 }

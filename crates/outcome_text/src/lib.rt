@@ -14,4 +14,4 @@ mod names;
 mod page;
 
 pub use answer::{Answer, answer_of};
-pub use run_outcomes::{Nobody, Watch};
+pub use run_outcomes::Watch;
