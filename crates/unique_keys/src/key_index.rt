@@ -237,8 +237,10 @@ impl KeyIndex {
         values: &Row,
         tx: TxId,
     ) -> Result<SmallVec<TxId, 4>, AllocError>
-        ensures { IfOk result (λ by. IsUpToDate self.now (V.content store.now)
+        ensures by { IfOk result (λ by. IsUpToDate self.now (V.content store.now)
             → EachOnce (key_blockers (V.content store.now) keys.now.table tx values.now (columns_of_key keys.now key)) by.items) }
+        ensures memory { OnErr result (IsUpToDate self.now (V.content store.now)
+            → key_blockers (V.content store.now) keys.now.table tx values.now (columns_of_key keys.now key) ≢ []) }
     {
         let columns = columns_at(keys, key as usize);
         self.blockers(store, keys.table, columns, values.values(), tx)
