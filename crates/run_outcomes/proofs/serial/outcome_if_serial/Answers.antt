@@ -9,7 +9,7 @@ use Rattle.run_outcomes.proofs.serial.outcome_if_serial.Goals as goal
 pub returns-then-not-are_serial : goal.returns-then-not-are_serial
 returns-then-not-are_serial c =
     not_serial (spec_view c.args.spec.now) (blocks_of c.args.blocks.now) (map string_bytes c.args.names.now) (map entry_view c.args.entries.now) c.args.items.now c.requires.regular
-    (λ are. false≢true (sym c.if-not-are_serial.true ∙ c.are_serial-in-Whole.ensures.1 are))
+    (λ are. false≢true (sym c.if-not-are_serial.true ∙ c.are_serial.ensures.1 are))
 
 pub returns-in_default : goal.returns-in_default
 returns-in_default c =
