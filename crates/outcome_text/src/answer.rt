@@ -5,7 +5,9 @@ ghost use Rattle.spec_parser.specs.Trees.{spec_view};
 
 use crate::heading::not_serial;
 use crate::html::put_html;
+use crate::names::step_names;
 use crate::page::put_text;
+use crate::text::Text;
 use permutations::{RunFault, read_file};
 use run_outcomes::{Outcomes, Watch, outcomes_of};
 use spec_parser::Spec;
@@ -19,23 +21,26 @@ pub struct Answer {
     pub serial: bool,
 }
 
+/// What is printed of the outcomes of a spec.
 fn answer_in(
     alloc: Global,
     spec: &Spec<'_>,
     outcomes: &Outcomes<'_>,
     is_html: bool,
 ) -> Result<Answer, AllocError> {
-    let mut text = String::new(alloc);
+    let mut out = Text::new(alloc, is_html);
+    let steps = step_names(alloc, spec)?;
     if is_html {
-        put_html(alloc, &mut text, spec, outcomes)?;
+        put_html(alloc, &mut out, spec, &steps, outcomes)?;
     } else {
-        put_text(alloc, &mut text, spec, outcomes)?;
+        put_text(alloc, &mut out, spec, &steps, outcomes)?;
     }
     let serial = not_serial(outcomes) == 0;
+    let text = out.end()?;
     Ok(Answer { text, serial })
 }
 
-/// The same of the outcomes of a spec.
+/// Runs the permutations of a spec, and says what can happen.
 fn answer_of_spec<W: Watch>(
     alloc: Global,
     spec: &Spec<'_>,

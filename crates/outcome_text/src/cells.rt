@@ -1,11 +1,10 @@
 //! What stands of an answer, or of a table's rows, in a column: a line a row, each with its newline.
 
+use crate::text::Text;
 use outcome_counts::{RunOutcome, same_answers, same_table};
 use query_results::ResultSet;
 use session_machine::{Outcome, StmtFault};
 use sql_values::{Row, Value};
-use std::alloc::AllocError;
-use std::fmt::Write;
 
 /// How a failure is told in a column.
 fn short_fault(fault: &StmtFault<'_>) -> &'static str {
@@ -19,64 +18,62 @@ fn short_fault(fault: &StmtFault<'_>) -> &'static str {
     }
 }
 
-fn put_value(out: &mut String, value: &Value) -> Result<(), AllocError> {
+fn put_value(out: &mut Text, value: &Value) {
     match value {
-        Value::Null => out.push_str("NULL"),
-        Value::Int(number) => write!(out, "{number}"),
-        Value::Big(number) => write!(out, "{number}"),
-        Value::Text(text) => out.push_str(text.as_str()),
-        Value::Bool(true) => out.push_str("t"),
-        Value::Bool(false) => out.push_str("f"),
+        Value::Null => out.put("NULL"),
+        Value::Int(number) => out.put_number(i64::from(*number)),
+        Value::Big(number) => out.put_number(*number),
+        Value::Text(text) => out.put(text.as_str()),
+        Value::Bool(true) => out.put("t"),
+        Value::Bool(false) => out.put("f"),
     }
 }
 
 /// Puts a row's values, with bars between.
-fn put_row(out: &mut String, row: &Row) -> Result<(), AllocError> {
+fn put_row(out: &mut Text, row: &Row) {
     for (at, value) in row.values().iter().enumerate() {
         if at > 0 {
-            out.push('|')?;
+            out.put("|");
         }
-        put_value(out, value)?;
+        put_value(out, value);
     }
-    out.push('\n')
+    out.put("\n");
 }
 
-fn put_rows(out: &mut String, rows: &[Row]) -> Result<(), AllocError> {
+fn put_rows(out: &mut Text, rows: &[Row]) {
     if rows.is_empty() {
-        return out.push_str("no rows\n");
+        out.put("no rows\n");
     }
     for row in rows {
-        put_row(out, row)?;
+        put_row(out, row);
     }
-    Ok(())
 }
 
-fn put_result(out: &mut String, set: &ResultSet<'_>) -> Result<(), AllocError> {
-    put_rows(out, set.rows())
+fn put_result(out: &mut Text, set: &ResultSet<'_>) {
+    put_rows(out, set.rows());
 }
 
 /// Puts the lines of an answer; a statement that worked and has no result has none.
-fn put_answer(out: &mut String, answer: &Outcome<'_>) -> Result<(), AllocError> {
+fn put_answer(out: &mut Text, answer: &Outcome<'_>) {
     match answer {
         Outcome::Rows(set) => put_result(out, set),
-        Outcome::Failed(fault) => out.push_str(short_fault(fault)),
-        _ => Ok(()),
+        Outcome::Failed(fault) => out.put(short_fault(fault)),
+        _ => {}
     }
 }
 
 /// Puts what a step answered.
-fn put_answers(out: &mut String, answers: &[Outcome<'_>]) -> Result<(), AllocError> {
+fn put_answers(out: &mut Text, answers: &[Outcome<'_>]) {
     for answer in answers {
-        put_answer(out, answer)?;
+        put_answer(out, answer);
     }
-    Ok(())
 }
 
 /// Puts the rows of a table.
-fn put_table(out: &mut String, rows: &Option<Vec<Row>>) -> Result<(), AllocError> {
+fn put_table(out: &mut Text, rows: &Option<Vec<Row>>) {
     match rows {
         Some(rows) => put_rows(out, rows),
-        None => out.push_str("no table\n"),
+        None => out.put("no table\n"),
     }
 }
 
@@ -89,16 +86,18 @@ pub enum Part {
 
 impl Part {
     /// Puts what it is in an outcome.
-    pub fn put(self, out: &mut String, outcome: &RunOutcome<'_>) -> Result<(), AllocError> {
+    pub fn put(self, out: &mut Text, outcome: &RunOutcome<'_>) {
         match self {
-            Part::Step(number) => match outcome.answers.get(number) {
-                Some(answers) => put_answers(out, answers),
-                None => Ok(()),
-            },
-            Part::Table(number) => match outcome.tables.get(number) {
-                Some(rows) => put_table(out, rows),
-                None => Ok(()),
-            },
+            Part::Step(number) => {
+                if let Some(answers) = outcome.answers.get(number) {
+                    put_answers(out, answers);
+                }
+            }
+            Part::Table(number) => {
+                if let Some(rows) = outcome.tables.get(number) {
+                    put_table(out, rows);
+                }
+            }
         }
     }
 
@@ -115,15 +114,4 @@ impl Part {
             },
         }
     }
-}
-
-/// Puts the lines of a cell, with these words between.
-pub fn put_joined(out: &mut String, cell: &str, between: &str) -> Result<(), AllocError> {
-    for (at, line) in cell.lines().enumerate() {
-        if at > 0 {
-            out.push_str(between)?;
-        }
-        out.push_str(line)?;
-    }
-    Ok(())
 }

@@ -1,5 +1,6 @@
 //! Outcomes side by side, as columns of text.
 
+use crate::text::Text;
 use std::alloc::{AllocError, Global};
 
 /// A row of the table: what it is about, and a cell for each outcome. A cell is its lines.
@@ -62,25 +63,20 @@ fn line_at(cell: &str, number: usize) -> &str {
 }
 
 /// Puts so many spaces, unless nothing comes behind them.
-fn put_text(out: &mut String, spaces: usize, text: &str) -> Result<(), AllocError> {
+fn put_behind(out: &mut Text, spaces: usize, text: &str) {
     if text.is_empty() {
-        return Ok(());
+        return;
     }
     for _ in 0..spaces {
-        out.push(' ')?;
+        out.put(" ");
     }
-    out.push_str(text)
+    out.put(text);
 }
 
 /// Puts the lines of this number of all cells.
-fn put_one(
-    out: &mut String,
-    line: &Line,
-    widths: &[usize],
-    number: usize,
-) -> Result<(), AllocError> {
+fn put_one(out: &mut Text, line: &Line, widths: &[usize], number: usize) {
     let head = if number == 0 { line.head.as_str() } else { "" };
-    put_text(out, GAP, head)?;
+    put_behind(out, GAP, head);
     // How many columns of characters stand, and how many come before the cell.
     let mut stand = if head.is_empty() {
         0
@@ -91,26 +87,24 @@ fn put_one(
     for (cell, width) in line.cells.iter().zip(widths.iter()) {
         before = before.saturating_add(*width).saturating_add(GAP);
         let text = line_at(cell.as_str(), number);
-        put_text(out, before.saturating_sub(stand), text)?;
+        put_behind(out, before.saturating_sub(stand), text);
         if !text.is_empty() {
             stand = before.saturating_add(chars_in(text));
         }
     }
-    out.push('\n')
+    out.put("\n");
 }
 
-fn put_line(out: &mut String, line: &Line, widths: &[usize]) -> Result<(), AllocError> {
+fn put_line(out: &mut Text, line: &Line, widths: &[usize]) {
     for number in 0..height_of(line) {
-        put_one(out, line, widths, number)?;
+        put_one(out, line, widths, number);
     }
-    Ok(())
 }
 
-fn put_lines(out: &mut String, lines: &[Line], widths: &[usize]) -> Result<(), AllocError> {
+fn put_lines(out: &mut Text, lines: &[Line], widths: &[usize]) {
     for line in lines {
-        put_line(out, line, widths)?;
+        put_line(out, line, widths);
     }
-    Ok(())
 }
 
 /// How wide what stands before each of so many columns is: the heads, and each column but the last.
@@ -126,10 +120,11 @@ fn widths_before(alloc: Global, lines: &[Line], columns: usize) -> Result<Vec<us
 /// Puts the lines as columns.
 pub fn put_columns(
     alloc: Global,
-    out: &mut String,
+    out: &mut Text,
     lines: &[Line],
     columns: usize,
 ) -> Result<(), AllocError> {
     let widths = widths_before(alloc, lines, columns)?;
-    put_lines(out, lines, &widths)
+    put_lines(out, lines, &widths);
+    Ok(())
 }

@@ -1,9 +1,8 @@
 //! How many permutations and outcomes there are, in a line or two.
 
+use crate::text::Text;
 use outcome_verdicts::Verdict;
 use run_outcomes::{Judged, Outcomes};
-use std::alloc::AllocError;
-use std::fmt::Write;
 
 /// How many of these outcomes no serial order has.
 fn not_serial_in(judged: &[Judged<'_>]) -> usize {
@@ -21,51 +20,47 @@ pub fn not_serial(outcomes: &Outcomes<'_>) -> usize {
     not_serial_in(&outcomes.judged)
 }
 
-/// Puts how many there are, and whether one or more.
-fn put_count(out: &mut String, number: u64, one: &str, more: &str) -> Result<(), AllocError> {
-    let word = if number == 1 { one } else { more };
-    write!(out, "{number} {word}")
+/// Puts how many there are, and the word for one or for more.
+fn put_counted(out: &mut Text, number: u64, one: &str, more: &str) {
+    out.put_count(number);
+    out.put(" ");
+    out.put(if number == 1 { one } else { more });
 }
 
 /// The same behind a comma; nothing where there are none.
-fn put_further(out: &mut String, number: u64, one: &str, more: &str) -> Result<(), AllocError> {
-    if number == 0 {
-        return Ok(());
+fn put_further(out: &mut Text, number: u64, one: &str, more: &str) {
+    if number > 0 {
+        out.put(", ");
+        put_counted(out, number, one, more);
     }
-    out.push_str(", ")?;
-    put_count(out, number, one, more)
 }
 
 /// Puts how many permutations run, and how many don't.
-fn put_permutations(
-    out: &mut String,
-    all: u64,
-    blocked: u64,
-    waiting: u64,
-) -> Result<(), AllocError> {
+fn put_permutations(out: &mut Text, all: u64, blocked: u64, waiting: u64) {
     let run = all.saturating_sub(blocked).saturating_sub(waiting);
-    put_count(out, all, "permutation: ", "permutations: ")?;
-    put_count(out, run, "runs", "run")?;
+    put_counted(out, all, "permutation: ", "permutations: ");
+    put_counted(out, run, "runs", "run");
     put_further(
         out,
         blocked,
         "starts a step whose session waits",
         "start a step whose session waits",
-    )?;
+    );
     put_further(
         out,
         waiting,
         "ends with a step that waits",
         "end with a step that waits",
-    )
+    );
 }
 
 /// Puts the first line.
-pub fn put_heading(out: &mut String, outcomes: &Outcomes<'_>) -> Result<(), AllocError> {
+pub fn put_heading(out: &mut Text, outcomes: &Outcomes<'_>) {
     let counted = &outcomes.counted;
-    put_permutations(out, outcomes.permutations, counted.blocked, counted.waiting)?;
-    let number = outcomes.judged.len();
-    let word = if number == 1 { "outcome" } else { "outcomes" };
-    let bad = not_serial(outcomes);
-    write!(out, ". {number} {word}, {bad} in no serial order.\n")
+    put_permutations(out, outcomes.permutations, counted.blocked, counted.waiting);
+    out.put(". ");
+    put_counted(out, outcomes.judged.len() as u64, "outcome", "outcomes");
+    out.put(", ");
+    out.put_count(not_serial(outcomes) as u64);
+    out.put(" in no serial order.\n");
 }

@@ -1,5 +1,6 @@
 //! Text in a page of HTML.
 
+use crate::text::Text;
 use std::alloc::AllocError;
 
 /// The picture of NUL; those of the control characters after it follow.
@@ -45,27 +46,17 @@ pub fn put_escaped(out: &mut String, text: &str) -> Result<(), AllocError> {
 }
 
 /// Puts text between an opening and a closing tag.
-pub fn put_in(out: &mut String, open: &str, text: &str, close: &str) -> Result<(), AllocError> {
-    out.push_str(open)?;
-    put_escaped(out, text)?;
-    out.push_str(close)
-}
-
-fn put_below(out: &mut String, cell: &str) -> Result<(), AllocError> {
-    for (at, line) in cell.lines().enumerate() {
-        if at > 0 {
-            out.push_str("<br>")?;
-        }
-        put_escaped(out, line)?;
-    }
-    Ok(())
+pub fn put_in(out: &mut Text, open: &str, text: &str, close: &str) {
+    out.put(open);
+    out.tell(text);
+    out.put(close);
 }
 
 /// Puts the lines of a cell between an opening and a closing tag, each below the other.
-pub fn put_lines(out: &mut String, open: &str, cell: &str, close: &str) -> Result<(), AllocError> {
-    out.push_str(open)?;
-    put_below(out, cell)?;
-    out.push_str(close)
+pub fn put_lines(out: &mut Text, open: &str, cell: &str, close: &str) {
+    out.put(open);
+    out.tell_lines(cell, "<br>");
+    out.put(close);
 }
 
 pub const HEAD: &str = r##"<!DOCTYPE html>

@@ -1,37 +1,25 @@
 //! Names of sessions, steps, tables and outcomes, and verdicts in a few words.
 
+use crate::text::Text;
 use outcome_verdicts::Verdict;
 use permutation_lists::line_of;
 use run_outcomes::written;
 use spec_parser::{Entry, Spec, StepPart, session_numbered};
 use std::alloc::{AllocError, Global};
-use std::fmt::Write;
 
 const LETTERS: &str = "ABCDEFGHIJKLMNOPQRSTUVWXYZ";
 
 /// Puts the name of the outcome of this number: a letter, or behind the last one a number.
-pub fn put_outcome_name(out: &mut String, number: usize) -> Result<(), AllocError> {
+pub fn put_outcome_name(out: &mut Text, number: usize) {
     match LETTERS.chars().nth(number) {
-        Some(letter) => out.push(letter),
-        None => {
-            let shown = number.saturating_add(1);
-            write!(out, "{shown}")
-        }
+        Some(letter) => out.put_char(letter),
+        None => out.put_count((number as u64).saturating_add(1)),
     }
 }
 
-fn put_session(
-    alloc: Global,
-    out: &mut String,
-    spec: &Spec<'_>,
-    session: u32,
-) -> Result<(), AllocError> {
-    match session_numbered(&spec.sessions, session as usize) {
-        Some(part) => {
-            let name = written(alloc, &part.name)?;
-            out.push_str(name.as_str())
-        }
-        None => Ok(()),
+fn put_session(out: &mut Text, spec: &Spec<'_>, session: u32) {
+    if let Some(part) = session_numbered(&spec.sessions, session as usize) {
+        out.tell_name(&part.name);
     }
 }
 
@@ -56,90 +44,55 @@ pub fn step_names(alloc: Global, spec: &Spec<'_>) -> Result<Vec<String>, AllocEr
 }
 
 /// Puts the names of sessions, with commas between.
-pub fn put_sessions(
-    alloc: Global,
-    out: &mut String,
-    spec: &Spec<'_>,
-    sessions: &[u32],
-) -> Result<(), AllocError> {
+pub fn put_sessions(out: &mut Text, spec: &Spec<'_>, sessions: &[u32]) {
     for (at, session) in sessions.iter().enumerate() {
         if at > 0 {
-            out.push_str(", ")?;
+            out.put(", ");
         }
-        put_session(alloc, out, spec, *session)?;
+        put_session(out, spec, *session);
     }
-    Ok(())
 }
 
 /// Puts that the transactions of these sessions fail, and in which order the others have the outcome.
-fn put_rest(
-    alloc: Global,
-    out: &mut String,
-    spec: &Spec<'_>,
-    failed: &[u32],
-    rest: &[u32],
-) -> Result<(), AllocError> {
-    put_sessions(alloc, out, spec, failed)?;
-    out.push_str(if failed.len() == 1 {
+fn put_rest(out: &mut Text, spec: &Spec<'_>, failed: &[u32], rest: &[u32]) {
+    put_sessions(out, spec, failed);
+    out.put(if failed.len() == 1 {
         " fails, "
     } else {
         " fail, "
-    })?;
+    });
     if rest.is_empty() {
-        return out.push_str("nothing else");
+        out.put("nothing else");
+    } else {
+        out.put("the rest as ");
+        put_sessions(out, spec, rest);
     }
-    out.push_str("the rest as ")?;
-    put_sessions(alloc, out, spec, rest)
 }
 
 /// Puts that the step goes on behind the end of a transaction.
-fn put_untold(
-    alloc: Global,
-    out: &mut String,
-    spec: &Spec<'_>,
-    session: u32,
-    step: u32,
-) -> Result<(), AllocError> {
-    match spec.step_numbered(session, step) {
-        Some(part) => {
-            let name = written(alloc, &part.name)?;
-            write!(
-                out,
-                "untold: {name} goes on behind the end of a transaction"
-            )
-        }
-        None => Ok(()),
+fn put_untold(out: &mut Text, spec: &Spec<'_>, session: u32, step: u32) {
+    out.put("untold: ");
+    if let Some(part) = spec.step_numbered(session, step) {
+        out.tell_name(&part.name);
     }
+    out.put(" goes on behind the end of a transaction");
 }
 
 /// Puts a verdict.
-pub fn put_verdict(
-    alloc: Global,
-    out: &mut String,
-    spec: &Spec<'_>,
-    verdict: &Verdict,
-) -> Result<(), AllocError> {
+pub fn put_verdict(out: &mut Text, spec: &Spec<'_>, verdict: &Verdict) {
     match verdict {
         Verdict::Serial(order) => {
-            out.push_str("as ")?;
-            put_sessions(alloc, out, spec, order)
+            out.put("as ");
+            put_sessions(out, spec, order);
         }
-        Verdict::RestSerial { failed, rest } => put_rest(alloc, out, spec, failed, rest),
-        Verdict::NotSerial => out.push_str("NOT SERIAL"),
-        Verdict::Untold { session, step } => put_untold(alloc, out, spec, *session, *step),
+        Verdict::RestSerial { failed, rest } => put_rest(out, spec, failed, rest),
+        Verdict::NotSerial => out.put("NOT SERIAL"),
+        Verdict::Untold { session, step } => put_untold(out, spec, *session, *step),
     }
 }
 
 /// Puts the permutation of these entries, as a line of a spec file.
-pub fn put_permutation(
-    alloc: Global,
-    out: &mut String,
-    spec: &Spec<'_>,
-    entries: &[Entry],
-) -> Result<(), AllocError> {
-    let line = line_of(alloc, spec, entries)?;
-    match std::str::from_utf8(line.as_slice()) {
-        Ok(text) => out.push_str(text.trim_end()),
-        Err(_) => Ok(()),
-    }
+pub fn put_permutation(out: &mut Text, spec: &Spec<'_>, entries: &[Entry]) {
+    let line = line_of(out.alloc(), spec, entries);
+    out.tell_line(line);
 }

@@ -4,12 +4,11 @@ use crate::cells::Part;
 use crate::columns::{Line, put_columns};
 use crate::details::put_details;
 use crate::heading::put_heading;
-use crate::names::{put_outcome_name, put_verdict, step_names};
-use outcome_counts::Group;
+use crate::names::{put_outcome_name, put_verdict};
+use crate::text::Text;
 use run_outcomes::Outcomes;
 use spec_parser::Spec;
 use std::alloc::{AllocError, Global};
-use std::fmt::Write;
 
 /// So many outcomes stand side by side; more are listed one below the other.
 const MOST_COLUMNS: usize = 6;
@@ -23,33 +22,19 @@ enum Row {
     Verdict,
 }
 
-fn put_group(out: &mut String, group: &Group<'_>, row: Row) -> Result<(), AllocError> {
-    let count = group.count;
-    match row {
-        Row::Of(part) => part.put(out, &group.outcome),
-        _ => write!(out, "{count}"),
-    }
-}
-
 /// Puts what a line says of the outcome of this number.
-fn put_cell(
-    alloc: Global,
-    out: &mut String,
-    spec: &Spec<'_>,
-    outcomes: &Outcomes<'_>,
-    number: usize,
-    row: Row,
-) -> Result<(), AllocError> {
+fn put_cell(out: &mut Text, spec: &Spec<'_>, outcomes: &Outcomes<'_>, number: usize, row: Row) {
     let (Some(group), Some(judged)) = (
         outcomes.counted.groups.get(number),
         outcomes.judged.get(number),
     ) else {
-        return Ok(());
+        return;
     };
     match row {
         Row::Name => put_outcome_name(out, number),
-        Row::Verdict => put_verdict(alloc, out, spec, &judged.verdict),
-        Row::Of(_) | Row::Count => put_group(out, group, row),
+        Row::Of(part) => part.put(out, &group.outcome),
+        Row::Count => out.put_count(group.count),
+        Row::Verdict => put_verdict(out, spec, &judged.verdict),
     }
 }
 
@@ -69,10 +54,10 @@ fn cells_of(
 ) -> Result<Vec<String>, AllocError> {
     let mut cells = Vec::new(alloc);
     for at in 0..span.count {
-        let mut cell = String::new(alloc);
+        let mut cell = Text::new(alloc, false);
         let number = span.first.saturating_add(at);
-        put_cell(alloc, &mut cell, spec, outcomes, number, row)?;
-        cells.push(cell)?;
+        put_cell(&mut cell, spec, outcomes, number, row);
+        cells.push(cell.end()?)?;
     }
     Ok(cells)
 }
@@ -171,7 +156,7 @@ pub fn lines_of(
 /// Puts the table of some outcomes.
 fn put_table(
     alloc: Global,
-    out: &mut String,
+    out: &mut Text,
     spec: &Spec<'_>,
     steps: &[String],
     outcomes: &Outcomes<'_>,
@@ -184,7 +169,7 @@ fn put_table(
 /// Puts the tables of all outcomes, each behind an empty line.
 fn put_tables(
     alloc: Global,
-    out: &mut String,
+    out: &mut Text,
     spec: &Spec<'_>,
     steps: &[String],
     outcomes: &Outcomes<'_>,
@@ -200,21 +185,23 @@ fn put_tables(
             first: number.saturating_mul(columns),
             count: shown.len(),
         };
-        out.push('\n')?;
+        out.put("\n");
         put_table(alloc, out, spec, steps, outcomes, span)?;
     }
-    out.push('\n')
+    out.put("\n");
+    Ok(())
 }
 
 /// Puts what can happen, as text.
 pub fn put_text(
     alloc: Global,
-    out: &mut String,
+    out: &mut Text,
     spec: &Spec<'_>,
+    steps: &[String],
     outcomes: &Outcomes<'_>,
 ) -> Result<(), AllocError> {
-    let steps = step_names(alloc, spec)?;
-    put_heading(out, outcomes)?;
-    put_tables(alloc, out, spec, &steps, outcomes)?;
-    put_details(alloc, out, spec, &steps, outcomes)
+    put_heading(out, outcomes);
+    put_tables(alloc, out, spec, steps, outcomes)?;
+    put_details(out, spec, steps, outcomes);
+    Ok(())
 }
