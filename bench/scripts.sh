@@ -1,6 +1,7 @@
 #!/usr/bin/env bash
 # Looks that the programs and scripts around the isolation tester do what their pages say: timeline, outcomes, regress, install, and calls through a symbolic
-# link. It needs ./build all and Python, and takes some seconds. Each case has a line; the status is 0 where all are well.
+# link; and that `outcomes` prints each text of crates/outcomes/data, byte for byte. It needs ./build all and Python, and takes some seconds. Each case has a line;
+# the status is 0 where all are well.
 set -eu
 here=$(cd "$(dirname "$0")/.." && pwd)
 . "$here/tools/built.sh"
