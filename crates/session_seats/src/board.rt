@@ -6,24 +6,81 @@ use crate::fault::ThreadFault;
 use std::alloc::Global;
 use std::hint::spin_loop;
 use std::sync::Wait;
-use std::sync::atomic::{AtomicU64, Ordering};
+use std::sync::atomic::{AtomicU64, AtomicUsize, Ordering};
 use std::thread::Parker;
 
 /// How many runs a crew has, at most: each has a bit of its own.
 pub const MOST_RUNS: usize = 64;
 
 /// How often a thread looks at its desk before it sleeps.
-const LOOKS: u32 = 20;
+const FEW_LOOKS: usize = 20;
+
+/// How often where it looks for a while, in a crew of one run: it takes about as long to be woken. In a crew of more runs a thread
+/// waits longer, for something to be done in several of them.
+const MANY_LOOKS: usize = 1500;
+
+/// How often in a row a thread doesn't look for a while, at most.
+const MOST_DOUBT: usize = 127;
 
 /// The bit of the run at this place.
 pub fn bit_of(place: usize) -> u64 {
     if place < MOST_RUNS { 1 << place } else { 0 }
 }
 
+/// Whether a thread looks at its desk for a while before it sleeps. Where that is in vain it doesn't the next times: with fewer
+/// processors than threads it would keep those from a processor that have something to do. The more often it is in vain, the
+/// more times.
+#[derive(Drop)]
+struct Patience {
+    looks: usize,
+    doubt: AtomicUsize,
+    without: AtomicUsize,
+}
+
+impl Patience {
+    /// In a crew of so many runs.
+    fn new(runs: usize) -> Patience {
+        Patience {
+            looks: if runs == 1 { MANY_LOOKS } else { FEW_LOOKS },
+            doubt: AtomicUsize::new(0),
+            without: AtomicUsize::new(0),
+        }
+    }
+
+    /// How often the thread looks this time.
+    fn looks(&self) -> usize {
+        let without = self.without.load(Ordering::SeqCst);
+        if without == 0 {
+            return self.looks;
+        }
+        self.without.store(without - 1, Ordering::SeqCst);
+        FEW_LOOKS
+    }
+
+    /// Something came within so many looks.
+    fn gain(&self, looks: usize) {
+        if looks > FEW_LOOKS {
+            let doubt = self.doubt.load(Ordering::SeqCst);
+            self.doubt.store(doubt / 2, Ordering::SeqCst);
+        }
+    }
+
+    /// Nothing did.
+    fn lose(&self, looks: usize) {
+        if looks > FEW_LOOKS {
+            let doubt = self.doubt.load(Ordering::SeqCst);
+            let more = doubt.saturating_mul(2).saturating_add(1).min(MOST_DOUBT);
+            self.doubt.store(more, Ordering::SeqCst);
+            self.without.store(more, Ordering::SeqCst);
+        }
+    }
+}
+
 /// What a session's thread is to look at: a bit for each run, and where it sleeps while there is none.
 #[derive(Drop)]
 struct Desk {
     runs: AtomicU64,
+    patience: Patience,
     sleeper: Parker,
 }
 
@@ -46,6 +103,7 @@ impl Board {
         for _ in 0..sessions + 1 {
             let desk = Desk {
                 runs: AtomicU64::new(0),
+                patience: Patience::new(runs),
                 sleeper: Parker::new(),
             };
             if desks.push(desk).is_err() {
@@ -108,22 +166,37 @@ impl Board {
         desk.runs.swap(0, Ordering::SeqCst)
     }
 
-    /// Takes what lies on the session's desk; looks a few times, and sleeps then, until there is something. Takes nothing
-    /// where all runs are over.
+    /// Looks at a desk, as often as its thread has patience. Finds nothing where all runs are over.
+    fn look_again(&self, desk: &Desk) -> Option<u64> {
+        let looks = desk.patience.looks();
+        for _ in 0..looks {
+            spin_loop();
+            let runs = self.look(desk);
+            if runs != 0 {
+                desk.patience.gain(looks);
+                return Some(runs);
+            }
+            if self.is_over() {
+                return Some(0);
+            }
+        }
+        desk.patience.lose(looks);
+        None
+    }
+
+    /// Takes what lies on the session's desk; looks a few times or for a while, and sleeps then, until there is something.
+    /// Takes nothing where all runs are over.
     pub fn take<R: Wait>(&self, rt: &R, session: u32) -> u64 {
         let Some(desk) = self.desks.get(session as usize) else {
             return 0;
         };
         for _ in rt.forever() {
-            for _ in 0..LOOKS {
-                let runs = self.look(desk);
-                if runs != 0 {
-                    return runs;
-                }
-                if self.is_over() {
-                    return 0;
-                }
-                spin_loop();
+            let runs = self.look(desk);
+            if runs != 0 {
+                return runs;
+            }
+            if let Some(runs) = self.look_again(desk) {
+                return runs;
             }
             desk.sleeper.park(rt);
         }

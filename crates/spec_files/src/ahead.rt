@@ -29,9 +29,6 @@ const MOST_THREADS: usize = 40;
 /// How many permutations one crew serves, at most: each thread that is started takes time, and what wakes one serves many.
 const MOST_TOGETHER: usize = 64;
 
-/// So many at most where one or two crews run.
-const FEW_TOGETHER: usize = 32;
-
 /// No crew is given fewer where so many are left.
 const LEAST_TOGETHER: usize = 8;
 
@@ -68,20 +65,12 @@ fn crews_for<R: Threads>(
     }
 }
 
-/// How many permutations run ahead of their turn, at most, by so many crews, or before it is known by how many. The more threads
-/// there are, the longer one waits for a processor, and the more what wakes it is to serve.
+/// How many permutations run ahead of their turn, at most, by so many crews, or before it is known by how many.
 fn most_ahead(crews: Option<usize>) -> u64
     ensures { (0 < result) × (result ≤ 256) }
 {
-    let Some(crews) = crews else {
-        return MOST_TOGETHER as u64;
-    };
-    let each = if crews > 2 {
-        MOST_TOGETHER
-    } else {
-        FEW_TOGETHER
-    };
-    crews.clamp(1, MOST_AT_A_TIME) as u64 * each as u64
+    let crews = crews.unwrap_or(1).clamp(1, MOST_AT_A_TIME);
+    crews as u64 * MOST_TOGETHER as u64
 }
 
 /// How many of so many permutations one crew serves: they are dealt out evenly, few of them to fewer crews.
