@@ -1,6 +1,7 @@
 #!/usr/bin/env bash
 # Looks that the programs and scripts around the isolation tester do what their pages say: timeline, outcomes, regress, install, and calls through a symbolic
-# link. It needs ./build all and Python, and takes some seconds. Each case has a line; the status is 0 where all are well.
+# link; and that `outcomes` prints each text of crates/outcomes/data, byte for byte. It needs ./build all and Python, and takes some seconds. Each case has a line;
+# the status is 0 where all are well.
 set -eu
 here=$(cd "$(dirname "$0")/.." && pwd)
 . "$here/tools/built.sh"
@@ -133,10 +134,14 @@ def timeline():
 
 
 def outcomes():
-    folder = f"{here}/crates/outcome_examples/data"
-    spec, text = (open(f"{folder}/{it}", "rb").read() for it in ("specs/write_skew_at_repeatable_read.spec", "expected/write_skew_at_repeatable_read.out"))
-    ran = run([f"{here}/outcomes"], spec)
-    case("outcomes: an example prints its text, with status 0", ran.returncode == 0 and ran.stdout == text)
+    folder = f"{here}/crates/outcomes/data"
+    names = sorted(it[: -len(".spec")] for it in os.listdir(f"{folder}/specs"))
+    for name in names:
+        with open(f"{folder}/specs/{name}.spec", "rb") as spec, open(f"{folder}/expected/{name}.out", "rb") as text:
+            ran = run([f"{here}/outcomes"], spec.read())
+            case(f"outcomes: the example {name} prints its text, with status 0", ran.returncode == 0 and ran.stdout == text.read())
+    with open(f"{folder}/specs/write_skew_at_repeatable_read.spec", "rb") as it:
+        spec = it.read()
     case("outcomes --serial: an outcome that no serial order has gives status 4", run([f"{here}/outcomes", "--serial"], spec).returncode == 4)
     case("outcomes --limit: one permutation more ends the run, with status 1", b"R9 TooManyPermutations" in run([f"{here}/outcomes", "--limit", "69"], spec).stderr)
     a, b = (" ".join(f"step {name}{number} {{ SELECT {number}; }}" for number in range(9)) for name in "ab")

@@ -1,115 +1,117 @@
-//! What stands of an answer or of a table in a column: a line a row.
+//! What stands of an answer, or of a table's rows, in a column: a line a row, each with its newline.
 
+use crate::text::Text;
+use outcome_counts::{RunOutcome, same_answers, same_table};
 use query_results::ResultSet;
 use session_machine::{Outcome, StmtFault};
 use sql_values::{Row, Value};
-use std::alloc::{AllocError, Global};
 
 /// How a failure is told in a column.
 fn short_fault(fault: &StmtFault<'_>) -> &'static str {
     match fault {
-        StmtFault::Deadlock => "ERROR deadlock",
-        StmtFault::NotSerializable => "ERROR serialize",
-        StmtFault::KeyTaken(_) => "ERROR key taken",
-        StmtFault::NotFree(_) => "ERROR locked",
-        StmtFault::Aborted => "ERROR aborted",
-        _ => "ERROR",
+        StmtFault::Deadlock => "ERROR deadlock\n",
+        StmtFault::NotSerializable => "ERROR serialize\n",
+        StmtFault::KeyTaken(_) => "ERROR key taken\n",
+        StmtFault::NotFree(_) => "ERROR locked\n",
+        StmtFault::Aborted => "ERROR aborted\n",
+        _ => "ERROR\n",
     }
 }
 
-fn put_value(alloc: Global, out: &mut String, value: &Value) -> Result<(), AllocError> {
+fn put_value(out: &mut Text, value: &Value) {
     match value {
-        Value::Null => out.push_str("NULL"),
-        Value::Int(number) => {
-            let shown = format!(in alloc; "{number}")?;
-            out.push_str(shown.as_str())
-        }
-        Value::Big(number) => {
-            let shown = format!(in alloc; "{number}")?;
-            out.push_str(shown.as_str())
-        }
-        Value::Text(text) => out.push_str(text.as_str()),
-        Value::Bool(true) => out.push_str("t"),
-        Value::Bool(false) => out.push_str("f"),
+        Value::Null => out.put("NULL"),
+        Value::Int(number) => out.put_number(i64::from(*number)),
+        Value::Big(number) => out.put_number(*number),
+        Value::Text(text) => out.put(text.as_str()),
+        Value::Bool(true) => out.put("t"),
+        Value::Bool(false) => out.put("f"),
     }
 }
 
-/// A row's values, with bars between.
-fn row_text(alloc: Global, row: &Row) -> Result<String, AllocError> {
-    let mut text = String::new(alloc);
-    let mut is_first = true;
-    for value in row.values() {
-        if !is_first {
-            text.push_str("|")?;
+/// Puts a row's values, with bars between.
+fn put_row(out: &mut Text, row: &Row) {
+    for (at, value) in row.values().iter().enumerate() {
+        if at > 0 {
+            out.put("|");
         }
-        is_first = false;
-        put_value(alloc, &mut text, value)?;
+        put_value(out, value);
     }
-    Ok(text)
+    out.put("\n");
 }
 
-/// Adds a line for each row.
-fn push_rows(alloc: Global, lines: &mut Vec<String>, rows: &[Row]) -> Result<(), AllocError> {
+fn put_rows(out: &mut Text, rows: &[Row]) {
     if rows.is_empty() {
-        lines.push(String::from_str(alloc, "no rows")?)?;
+        out.put("no rows\n");
     }
     for row in rows {
-        lines.push(row_text(alloc, row)?)?;
+        put_row(out, row);
     }
-    Ok(())
 }
 
-fn push_result(
-    alloc: Global,
-    lines: &mut Vec<String>,
-    set: &ResultSet<'_>,
-) -> Result<(), AllocError> {
-    push_rows(alloc, lines, set.rows())
+fn put_result(out: &mut Text, set: &ResultSet<'_>) {
+    put_rows(out, set.rows());
 }
 
-/// Adds the lines of an answer; a statement that worked and has no result has none.
-fn push_answer(
-    alloc: Global,
-    lines: &mut Vec<String>,
-    answer: &Outcome<'_>,
-) -> Result<(), AllocError> {
+/// Puts the lines of an answer; a statement that worked and has no result has none.
+fn put_answer(out: &mut Text, answer: &Outcome<'_>) {
     match answer {
-        Outcome::Rows(set) => push_result(alloc, lines, set),
-        Outcome::Failed(fault) => {
-            lines.push(String::from_str(alloc, short_fault(fault))?)?;
-            Ok(())
-        }
-        _ => Ok(()),
+        Outcome::Rows(set) => put_result(out, set),
+        Outcome::Failed(fault) => out.put(short_fault(fault)),
+        _ => {}
     }
 }
 
-/// What a step answered.
-pub fn answers_cell(alloc: Global, answers: &[Outcome<'_>]) -> Result<Vec<String>, AllocError> {
-    let mut lines = Vec::new(alloc);
+/// Puts what a step answered.
+fn put_answers(out: &mut Text, answers: &[Outcome<'_>]) {
     for answer in answers {
-        push_answer(alloc, &mut lines, answer)?;
+        put_answer(out, answer);
     }
-    Ok(lines)
 }
 
-/// The rows of a table.
-pub fn table_cell(alloc: Global, rows: &Option<Vec<Row>>) -> Result<Vec<String>, AllocError> {
-    let mut lines = Vec::new(alloc);
+/// Puts the rows of a table.
+fn put_table(out: &mut Text, rows: &Option<Vec<Row>>) {
     match rows {
-        Some(rows) => push_rows(alloc, &mut lines, rows)?,
-        None => lines.push(String::from_str(alloc, "no table")?)?,
+        Some(rows) => put_rows(out, rows),
+        None => out.put("no table\n"),
     }
-    Ok(lines)
 }
 
-/// The lines of a cell as one, with semicolons between.
-pub fn one_line(alloc: Global, lines: &[String]) -> Result<String, AllocError> {
-    let mut text = String::new(alloc);
-    for line in lines {
-        if !text.is_empty() {
-            text.push_str("; ")?;
+/// A part of an outcome: what the step of this number answered, or the rows of the table of this number.
+#[derive(Clone, Copy)]
+pub enum Part {
+    Step(usize),
+    Table(usize),
+}
+
+impl Part {
+    /// Puts what it is in an outcome.
+    pub fn put(self, out: &mut Text, outcome: &RunOutcome<'_>) {
+        match self {
+            Part::Step(number) => {
+                if let Some(answers) = outcome.answers.get(number) {
+                    put_answers(out, answers);
+                }
+            }
+            Part::Table(number) => {
+                if let Some(rows) = outcome.tables.get(number) {
+                    put_table(out, rows);
+                }
+            }
         }
-        text.push_str(line.as_str())?;
     }
-    Ok(text)
+
+    /// Whether it is the same in both outcomes.
+    pub fn is_same(self, a: &RunOutcome<'_>, b: &RunOutcome<'_>) -> bool {
+        match self {
+            Part::Step(number) => match (a.answers.get(number), b.answers.get(number)) {
+                (Some(x), Some(y)) => same_answers(x, y),
+                _ => true,
+            },
+            Part::Table(number) => match (a.tables.get(number), b.tables.get(number)) {
+                (Some(x), Some(y)) => same_table(x, y),
+                _ => true,
+            },
+        }
+    }
 }

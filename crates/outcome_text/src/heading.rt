@@ -1,83 +1,66 @@
 //! How many permutations and outcomes there are, in a line or two.
 
+use crate::text::Text;
 use outcome_verdicts::Verdict;
-use run_outcomes::Outcomes;
-use std::alloc::{AllocError, Global};
+use run_outcomes::{Judged, Outcomes};
 
-/// How many outcomes no serial order has.
-pub fn not_serial(outcomes: &Outcomes<'_>) -> usize {
+/// How many of these outcomes no serial order has.
+fn not_serial_in(judged: &[Judged<'_>]) -> usize {
     let mut number = 0usize;
-    for judged in &outcomes.judged {
-        if let Verdict::NotSerial = judged.verdict {
+    for one in judged {
+        if let Verdict::NotSerial = one.verdict {
             number = number.saturating_add(1);
         }
     }
     number
 }
 
-fn put_count(
-    alloc: Global,
-    out: &mut String,
-    number: u64,
-    one: &str,
-    more: &str,
-) -> Result<(), AllocError> {
-    let word = if number == 1 { one } else { more };
-    let text = format!(in alloc; "{number} {word}")?;
-    out.push_str(text.as_str())
+/// How many outcomes no serial order has.
+pub fn not_serial(outcomes: &Outcomes<'_>) -> usize {
+    not_serial_in(&outcomes.judged)
 }
 
-/// Puts how many permutations run.
-fn put_permutations(
-    alloc: Global,
-    out: &mut String,
-    outcomes: &Outcomes<'_>,
-) -> Result<(), AllocError> {
-    let run = outcomes
-        .permutations
-        .saturating_sub(outcomes.counted.blocked)
-        .saturating_sub(outcomes.counted.waiting);
-    put_count(
-        alloc,
+/// Puts how many there are, and the word for one or for more.
+fn put_counted(out: &mut Text, number: u64, one: &str, more: &str) {
+    out.put_count(number);
+    out.put(" ");
+    out.put(if number == 1 { one } else { more });
+}
+
+/// The same behind a comma; nothing where there are none.
+fn put_further(out: &mut Text, number: u64, one: &str, more: &str) {
+    if number > 0 {
+        out.put(", ");
+        put_counted(out, number, one, more);
+    }
+}
+
+/// Puts how many permutations run, and how many don't.
+fn put_permutations(out: &mut Text, all: u64, blocked: u64, waiting: u64) {
+    let run = all.saturating_sub(blocked).saturating_sub(waiting);
+    put_counted(out, all, "permutation: ", "permutations: ");
+    put_counted(out, run, "runs", "run");
+    put_further(
         out,
-        outcomes.permutations,
-        "permutation: ",
-        "permutations: ",
-    )?;
-    put_count(alloc, out, run, "runs", "run")?;
-    if outcomes.counted.blocked > 0 {
-        out.push_str(", ")?;
-        put_count(
-            alloc,
-            out,
-            outcomes.counted.blocked,
-            "starts a step whose session waits",
-            "start a step whose session waits",
-        )?;
-    }
-    if outcomes.counted.waiting > 0 {
-        out.push_str(", ")?;
-        put_count(
-            alloc,
-            out,
-            outcomes.counted.waiting,
-            "ends with a step that waits",
-            "end with a step that waits",
-        )?;
-    }
-    out.push_str(". ")
+        blocked,
+        "starts a step whose session waits",
+        "start a step whose session waits",
+    );
+    put_further(
+        out,
+        waiting,
+        "ends with a step that waits",
+        "end with a step that waits",
+    );
 }
 
 /// Puts the first line.
-pub fn put_heading(
-    alloc: Global,
-    out: &mut String,
-    outcomes: &Outcomes<'_>,
-) -> Result<(), AllocError> {
-    put_permutations(alloc, out, outcomes)?;
-    let number = outcomes.judged.len() as u64;
-    put_count(alloc, out, number, "outcome", "outcomes")?;
-    let bad = not_serial(outcomes);
-    let text = format!(in alloc; ", {bad} in no serial order.\n")?;
-    out.push_str(text.as_str())
+pub fn put_heading(out: &mut Text, outcomes: &Outcomes<'_>) {
+    let counted = &outcomes.counted;
+    put_permutations(out, outcomes.permutations, counted.blocked, counted.waiting);
+    out.put(". ");
+    put_counted(out, outcomes.judged.len() as u64, "outcome", "outcomes");
+    out.put(", ");
+    out.put_count(not_serial(outcomes) as u64);
+    out.put(" in no serial order.\n");
 }

@@ -12,6 +12,7 @@ mod interleaving;
 mod markup;
 mod names;
 mod page;
+mod text;
 
 pub use answer::{Answer, answer_of};
-pub use run_outcomes::{Nobody, Watch};
+pub use run_outcomes::Watch;

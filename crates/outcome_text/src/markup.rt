@@ -1,5 +1,6 @@
 //! Text in a page of HTML.
 
+use crate::text::Text;
 use std::alloc::AllocError;
 
 /// The picture of NUL; those of the control characters after it follow.
@@ -21,43 +22,41 @@ fn shown(ch: char) -> char {
     }
 }
 
+/// What stands for a character that a page of HTML gives a meaning of its own.
+fn named(ch: char) -> Option<&'static str> {
+    match ch {
+        '<' => Some("&lt;"),
+        '>' => Some("&gt;"),
+        '&' => Some("&amp;"),
+        '"' => Some("&quot;"),
+        '\'' => Some("&#39;"),
+        _ => None,
+    }
+}
+
 /// Puts text as it is to be read.
 pub fn put_escaped(out: &mut String, text: &str) -> Result<(), AllocError> {
     for ch in text.chars() {
-        match ch {
-            '<' => out.push_str("&lt;")?,
-            '>' => out.push_str("&gt;")?,
-            '&' => out.push_str("&amp;")?,
-            '"' => out.push_str("&quot;")?,
-            '\'' => out.push_str("&#39;")?,
-            _ => out.push(shown(ch))?,
+        match named(ch) {
+            Some(name) => out.push_str(name)?,
+            None => out.push(shown(ch))?,
         }
     }
     Ok(())
 }
 
 /// Puts text between an opening and a closing tag.
-pub fn put_in(out: &mut String, open: &str, text: &str, close: &str) -> Result<(), AllocError> {
-    out.push_str(open)?;
-    put_escaped(out, text)?;
-    out.push_str(close)
+pub fn put_in(out: &mut Text, open: &str, text: &str, close: &str) {
+    out.put(open);
+    out.tell(text);
+    out.put(close);
 }
 
-/// Puts lines between an opening and a closing tag, each below the other.
-pub fn put_lines(
-    out: &mut String,
-    open: &str,
-    lines: &[String],
-    close: &str,
-) -> Result<(), AllocError> {
-    out.push_str(open)?;
-    for (at, line) in lines.iter().enumerate() {
-        if at > 0 {
-            out.push_str("<br>")?;
-        }
-        put_escaped(out, line.as_str())?;
-    }
-    out.push_str(close)
+/// Puts the lines of a cell between an opening and a closing tag, each below the other.
+pub fn put_lines(out: &mut Text, open: &str, cell: &str, close: &str) {
+    out.put(open);
+    out.tell_lines(cell, "<br>");
+    out.put(close);
 }
 
 pub const HEAD: &str = r##"<!DOCTYPE html>

@@ -1,27 +1,68 @@
 //! The whole text, and the lines of its table.
 
-use crate::cells::{answers_cell, table_cell};
+use crate::cells::Part;
 use crate::columns::{Line, put_columns};
 use crate::details::put_details;
 use crate::heading::put_heading;
-use crate::names::{outcome_name, step_names, verdict_text};
-use outcome_counts::Group;
-use run_outcomes::{Judged, Outcomes};
+use crate::names::{put_outcome_name, put_verdict};
+use crate::text::Text;
+use run_outcomes::Outcomes;
 use spec_parser::Spec;
 use std::alloc::{AllocError, Global};
 
 /// So many outcomes stand side by side; more are listed one below the other.
 const MOST_COLUMNS: usize = 6;
 
-/// A cell of one line.
-fn cell_of(alloc: Global, text: String) -> Result<Vec<String>, AllocError> {
-    let mut cell = Vec::new(alloc);
-    cell.push(text)?;
-    Ok(cell)
+/// What a line of the table says of each outcome.
+#[derive(Clone, Copy)]
+enum Row {
+    Name,
+    Of(Part),
+    Count,
+    Verdict,
 }
 
-/// Whether a cell has something in it.
-fn is_told(cells: &[Vec<String>]) -> bool {
+/// Puts what a line says of the outcome of this number.
+fn put_cell(out: &mut Text, spec: &Spec<'_>, outcomes: &Outcomes<'_>, number: usize, row: Row) {
+    let (Some(group), Some(judged)) = (
+        outcomes.counted.groups.get(number),
+        outcomes.judged.get(number),
+    ) else {
+        return;
+    };
+    match row {
+        Row::Name => put_outcome_name(out, number),
+        Row::Of(part) => part.put(out, &group.outcome),
+        Row::Count => out.put_count(group.count),
+        Row::Verdict => put_verdict(out, spec, &judged.verdict),
+    }
+}
+
+/// So many outcomes from this one on.
+#[derive(Clone, Copy)]
+pub struct Span {
+    pub first: usize,
+    pub count: usize,
+}
+
+fn cells_of(
+    alloc: Global,
+    spec: &Spec<'_>,
+    outcomes: &Outcomes<'_>,
+    span: Span,
+    row: Row,
+) -> Result<Vec<String>, AllocError> {
+    let mut cells = Vec::new(alloc);
+    for at in 0..span.count {
+        let mut cell = Text::new(alloc, false);
+        let number = span.first.saturating_add(at);
+        put_cell(&mut cell, spec, outcomes, number, row);
+        cells.push(cell.end()?)?;
+    }
+    Ok(cells)
+}
+
+fn is_told(cells: &[String]) -> bool {
     for cell in cells {
         if !cell.is_empty() {
             return true;
@@ -30,135 +71,137 @@ fn is_told(cells: &[Vec<String>]) -> bool {
     false
 }
 
-/// The line of a step.
-fn step_line(
+/// Whether a line is shown: that of a step only where the step answered something in one of the outcomes.
+fn is_shown(row: Row, cells: &[String]) -> bool {
+    match row {
+        Row::Of(Part::Step(_)) => is_told(cells),
+        _ => true,
+    }
+}
+
+/// Adds a line, if it is shown.
+fn push_line(
     alloc: Global,
-    name: &str,
-    number: usize,
-    shown: &[Group<'_>],
-) -> Result<Line, AllocError> {
-    let mut cells = Vec::new(alloc);
-    for group in shown {
-        cells.push(match group.outcome.answers.get(number) {
-            Some(answers) => answers_cell(alloc, answers)?,
-            None => Vec::new(alloc),
-        })?;
-    }
-    Ok(Line {
-        head: String::from_str(alloc, name)?,
-        cells,
-    })
-}
-
-/// The line of a table.
-fn table_line(
-    alloc: Global,
-    name: &str,
-    number: usize,
-    shown: &[Group<'_>],
-) -> Result<Line, AllocError> {
-    let mut cells = Vec::new(alloc);
-    for group in shown {
-        cells.push(match group.outcome.tables.get(number) {
-            Some(rows) => table_cell(alloc, rows)?,
-            None => Vec::new(alloc),
-        })?;
-    }
-    Ok(Line {
-        head: String::from_str(alloc, name)?,
-        cells,
-    })
-}
-
-/// The line of the outcomes' names.
-fn name_line(alloc: Global, first: usize, shown: usize) -> Result<Line, AllocError> {
-    let mut cells = Vec::new(alloc);
-    for at in 0..shown {
-        let name = outcome_name(alloc, first.saturating_add(at))?;
-        cells.push(cell_of(alloc, name)?)?;
-    }
-    Ok(Line {
-        head: String::new(alloc),
-        cells,
-    })
-}
-
-fn count_line(alloc: Global, shown: &[Group<'_>]) -> Result<Line, AllocError> {
-    let mut cells = Vec::new(alloc);
-    for group in shown {
-        let count = group.count;
-        cells.push(cell_of(alloc, format!(in alloc; "{count}")?)?)?;
-    }
-    Ok(Line {
-        head: String::from_str(alloc, "permutations")?,
-        cells,
-    })
-}
-
-fn verdict_line(
-    alloc: Global,
+    lines: &mut Vec<Line>,
     spec: &Spec<'_>,
-    judged: &[Judged<'_>],
-    first: usize,
-    shown: usize,
-) -> Result<Line, AllocError> {
-    let mut cells = Vec::new(alloc);
-    for one in judged.iter().skip(first).take(shown) {
-        let text = verdict_text(alloc, spec, &one.verdict)?;
-        cells.push(cell_of(alloc, text)?)?;
+    outcomes: &Outcomes<'_>,
+    span: Span,
+    row: Row,
+    head: &str,
+) -> Result<(), AllocError> {
+    let cells = cells_of(alloc, spec, outcomes, span, row)?;
+    if !is_shown(row, &cells) {
+        return Ok(());
     }
-    Ok(Line {
-        head: String::from_str(alloc, "verdict")?,
-        cells,
-    })
+    let head = String::from_str(alloc, head)?;
+    lines.push(Line { head, cells })?;
+    Ok(())
 }
 
-/// The lines of some outcomes, of which the first has this number.
+/// Adds the lines of all steps and tables.
+fn push_parts(
+    alloc: Global,
+    lines: &mut Vec<Line>,
+    spec: &Spec<'_>,
+    steps: &[String],
+    outcomes: &Outcomes<'_>,
+    span: Span,
+) -> Result<(), AllocError> {
+    for (number, name) in steps.iter().enumerate() {
+        let row = Row::Of(Part::Step(number));
+        push_line(alloc, lines, spec, outcomes, span, row, name.as_str())?;
+    }
+    for (number, name) in outcomes.tables.iter().enumerate() {
+        let row = Row::Of(Part::Table(number));
+        push_line(alloc, lines, spec, outcomes, span, row, name.as_str())?;
+    }
+    Ok(())
+}
+
+fn push_lines(
+    alloc: Global,
+    lines: &mut Vec<Line>,
+    spec: &Spec<'_>,
+    steps: &[String],
+    outcomes: &Outcomes<'_>,
+    span: Span,
+) -> Result<(), AllocError> {
+    push_line(alloc, lines, spec, outcomes, span, Row::Name, "")?;
+    push_parts(alloc, lines, spec, steps, outcomes, span)?;
+    push_line(
+        alloc,
+        lines,
+        spec,
+        outcomes,
+        span,
+        Row::Count,
+        "permutations",
+    )?;
+    push_line(alloc, lines, spec, outcomes, span, Row::Verdict, "verdict")
+}
+
+/// The lines of some outcomes.
 pub fn lines_of(
     alloc: Global,
     spec: &Spec<'_>,
     steps: &[String],
     outcomes: &Outcomes<'_>,
-    first: usize,
-    shown: &[Group<'_>],
+    span: Span,
 ) -> Result<Vec<Line>, AllocError> {
     let mut lines = Vec::new(alloc);
-    lines.push(name_line(alloc, first, shown.len())?)?;
-    for (number, name) in steps.iter().enumerate() {
-        let line = step_line(alloc, name.as_str(), number, shown)?;
-        if is_told(&line.cells) {
-            lines.push(line)?;
-        }
-    }
-    for (number, name) in outcomes.tables.iter().enumerate() {
-        lines.push(table_line(alloc, name.as_str(), number, shown)?)?;
-    }
-    lines.push(count_line(alloc, shown)?)?;
-    lines.push(verdict_line(alloc, spec, outcomes.judged.as_slice(), first, shown.len())?)?;
+    push_lines(alloc, &mut lines, spec, steps, outcomes, span)?;
     Ok(lines)
 }
 
-/// What can happen, as text.
-pub fn text_of(
+/// Puts the table of some outcomes.
+fn put_table(
     alloc: Global,
+    out: &mut Text,
     spec: &Spec<'_>,
+    steps: &[String],
     outcomes: &Outcomes<'_>,
-) -> Result<String, AllocError> {
-    let steps = step_names(alloc, spec)?;
-    let mut out = String::new(alloc);
-    put_heading(alloc, &mut out, outcomes)?;
-    let columns = if outcomes.counted.groups.len() <= MOST_COLUMNS {
+    span: Span,
+) -> Result<(), AllocError> {
+    let lines = lines_of(alloc, spec, steps, outcomes, span)?;
+    put_columns(alloc, out, &lines, span.count)
+}
+
+/// Puts the tables of all outcomes, each behind an empty line.
+fn put_tables(
+    alloc: Global,
+    out: &mut Text,
+    spec: &Spec<'_>,
+    steps: &[String],
+    outcomes: &Outcomes<'_>,
+) -> Result<(), AllocError> {
+    let groups = outcomes.counted.groups.as_slice();
+    let columns = if groups.len() <= MOST_COLUMNS {
         MOST_COLUMNS
     } else {
         1
     };
-    for (number, shown) in outcomes.counted.groups.chunks(columns).enumerate() {
-        out.push('\n')?;
-        let first = number.saturating_mul(columns);
-        let lines = lines_of(alloc, spec, &steps, outcomes, first, shown)?;
-        put_columns(alloc, &mut out, &lines, shown.len())?;
+    for (number, shown) in groups.chunks(columns).enumerate() {
+        let span = Span {
+            first: number.saturating_mul(columns),
+            count: shown.len(),
+        };
+        out.put("\n");
+        put_table(alloc, out, spec, steps, outcomes, span)?;
     }
-    out.push('\n')?;
-    put_details(alloc, &mut out, spec, &steps, outcomes)?;
-    Ok(out)
+    out.put("\n");
+    Ok(())
+}
+
+/// Puts what can happen, as text.
+pub fn put_text(
+    alloc: Global,
+    out: &mut Text,
+    spec: &Spec<'_>,
+    steps: &[String],
+    outcomes: &Outcomes<'_>,
+) -> Result<(), AllocError> {
+    put_heading(out, outcomes);
+    put_tables(alloc, out, spec, steps, outcomes)?;
+    put_details(out, spec, steps, outcomes);
+    Ok(())
 }

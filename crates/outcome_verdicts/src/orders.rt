@@ -14,8 +14,10 @@ pub fn counts_of(alloc: Global, lists: &[Vec<Transaction>]) -> Result<Vec<u32>, 
 {
     let mut counts = Vec::new(alloc);
     for list in lists {
-        let count = u32::try_from(list.len()).map_err(|_| AllocError)?;
-        counts.push(count)?;
+        match u32::try_from(list.len()) {
+            Ok(count) => counts.push(count)?,
+            Err(_) => return Err(AllocError),
+        }
     }
     Ok(counts)
 }
@@ -42,7 +44,13 @@ fn push_steps(
 fn turns_of(turns: &[u32], session: u32) -> usize
     ensures { result ≡ count_by (λ x. x == session) turns.now }
 {
-    turns.iter().filter(|turn| **turn == session).count()
+    let mut count = 0usize;
+    for turn in turns {
+        if *turn == session {
+            count += 1;
+        }
+    }
+    count
 }
 
 /// The transaction whose turn it is, after so many of its session.

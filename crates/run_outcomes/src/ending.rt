@@ -1,12 +1,15 @@
 //! How permutations end.
 
-ghost use Rattle.std.specs.Prelude.{◌≡◌, ◌≤◌, IfOk, length, map};
+ghost use Rattle.std.specs.Prelude.{◌≡◌, ◌≤◌, ◌-◌, nat_lt, IfOk, length, map};
 ghost use Rattle.spec_parser.specs.Trees.{entry_view, spec_view};
+ghost use Rattle.spec_parser.specs.Stands.{Stands};
 ghost use Rattle.report_lines.specs.Starts.{segment_start};
+ghost use Rattle.report_lines.specs.Due.{orders};
+ghost use Rattle.report_lines.specs.Report.{report};
 ghost use Rattle.report_text.specs.Code.Turns.{setup_numbers};
 ghost use Rattle.run_outcomes.specs.Endings.{ending, ending_in, wanted};
 
-use crate::setups::setups_of;
+use crate::setups::setups_in;
 use report_lines::{PermutationRun, RunState, report};
 use session_machine::HistItem;
 use spec_parser::{Entry, Spec};
@@ -42,47 +45,49 @@ fn end_of(state: RunState, early: bool) -> Ending
     }
 }
 
-/// How the entries ended in this history.
-pub fn ending_in(
-    alloc: Global,
-    spec: &Spec<'_>,
-    entries: &[Entry],
-    items: &[HistItem<'_>],
-) -> Result<Ending, AllocError>
-    ensures { IfOk result (λ e. e ≡ ending_in (spec_view spec.now) (map entry_view entries.now) items.now) }
-{
-    let setups = setups_of(alloc, spec)?;
-    let run = PermutationRun::new(alloc, entries, items, setups.len())?;
-    let (_lines, state) = report(alloc, &run)?;
-    let early = run.segments().count() < setups.len() + entries.len();
-    Ok(end_of(state, early))
+/// How a permutation ended, and how many items of its history come before its entries and before its teardowns.
+#[derive(Clone, Copy)]
+pub struct Ended {
+    pub ending: Ending,
+    pub setups: usize,
+    pub front: usize,
 }
 
-/// How many items of the history are setups.
-pub fn setups_len(
+/// The same of a run, of which so many segments are setups, and so many are wanted before the teardowns.
+fn ended_by(
     alloc: Global,
-    spec: &Spec<'_>,
-    entries: &[Entry],
-    items: &[HistItem<'_>],
-) -> Result<usize, AllocError>
-    ensures { IfOk result (λ n. n ≡ segment_start items.now (length (setup_numbers (spec_view spec.now)))) }
+    run: &PermutationRun<'_>,
+    setups: usize,
+    segments: usize,
+) -> Result<Ended, AllocError>
+    ensures ending { IfOk result (λ e. e.ending ≡ ending (report run.now (orders run.now.items - run.now.setups)).state (nat_lt (orders run.now.items) segments)) }
+    ensures setups { IfOk result (λ e. e.setups ≡ segment_start run.now.items setups) }
+    ensures front { IfOk result (λ e. e.front ≡ segment_start run.now.items segments) }
+    ensures within { IfOk result (λ e. e.front ≤ length run.now.items) }
 {
-    let setups = setups_of(alloc, spec)?;
-    let run = PermutationRun::new(alloc, entries, items, setups.len())?;
-    Ok(run.segments().start(setups.len()))
+    let (_lines, state) = report(alloc, run)?;
+    let early = run.segments().count() < segments;
+    Ok(Ended {
+        ending: end_of(state, early),
+        setups: run.segments().start(setups),
+        front: run.segments().start(segments),
+    })
 }
 
-/// How many items of the history come before the teardowns.
-pub fn front_len(
+/// How a permutation ended in this history.
+pub fn ended_in(
     alloc: Global,
     spec: &Spec<'_>,
     entries: &[Entry],
     items: &[HistItem<'_>],
-) -> Result<usize, AllocError>
-    ensures exact { IfOk result (λ n. n ≡ segment_start items.now (wanted (spec_view spec.now) (map entry_view entries.now))) }
-    ensures within { IfOk result (λ n. n ≤ length items.now) }
+) -> Result<Ended, AllocError>
+    requires { Stands (spec_view spec.now) }
+    ensures ending { IfOk result (λ e. e.ending ≡ ending_in (spec_view spec.now) (map entry_view entries.now) items.now) }
+    ensures setups { IfOk result (λ e. e.setups ≡ segment_start items.now (length (setup_numbers (spec_view spec.now)))) }
+    ensures front { IfOk result (λ e. e.front ≡ segment_start items.now (wanted (spec_view spec.now) (map entry_view entries.now))) }
+    ensures within { IfOk result (λ e. e.front ≤ length items.now) }
 {
-    let setups = setups_of(alloc, spec)?;
-    let run = PermutationRun::new(alloc, entries, items, setups.len())?;
-    Ok(run.segments().start(setups.len() + entries.len()))
+    let setups = setups_in(spec);
+    let run = PermutationRun::new(alloc, entries, items, setups)?;
+    ended_by(alloc, &run, setups, setups + entries.len())
 }

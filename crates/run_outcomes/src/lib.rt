@@ -13,4 +13,4 @@ mod watch;
 pub use ending::Ending;
 pub use outcome::written;
 pub use outcomes::{Judged, Outcomes, outcomes_of};
-pub use watch::{Nobody, Watch};
+pub use watch::Watch;

@@ -1,6 +1,6 @@
 //! The outcome of a permutation.
 
-ghost use Rattle.std.specs.Prelude.{◌≡◌, IfOk, Ok, length, map, string_bytes};
+ghost use Rattle.std.specs.Prelude.{◌≡◌, ◌≤◌, IfOk, Ok, length, map, string_bytes};
 ghost use Rattle.sql_blocks.specs.Blocks.{blocks_of};
 ghost use Rattle.session_machine.specs.declared.event.Mode.TheVariants.{Directed};
 ghost use Rattle.session_machine.specs.Engine.{IsLegal, visible_in};
@@ -8,10 +8,10 @@ ghost use Rattle.spec_parser.specs.Trees.{entry_view, spec_view};
 ghost use Rattle.spec_parser.specs.Stands.{Stands};
 ghost use Rattle.permutation_plans.specs.Regular.{IsRegular};
 ghost use Rattle.outcome_counts.specs.Outcomes.{answers_of, answers_told};
-ghost use Rattle.run_outcomes.specs.Endings.{front_of};
+ghost use Rattle.report_lines.specs.Starts.{segment_start};
+ghost use Rattle.run_outcomes.specs.Endings.{front_of, wanted};
 ghost use Rattle.run_outcomes.specs.Tables.{Shown, tables_view};
 
-use crate::ending::front_len;
 use crate::play::replayed;
 use iso_lexer::{Name, Page, write_name};
 use outcome_counts::{RunOutcome, answers_of};
@@ -105,7 +105,7 @@ fn rows_behind(
     }
 }
 
-/// The rows of each of these tables behind the entries of a permutation that has this history.
+/// The rows of each of these tables behind the entries of a permutation that has this history, up to so many items.
 fn tables_of(
     alloc: Global,
     spec: &Spec<'_>,
@@ -113,17 +113,19 @@ fn tables_of(
     names: &[String],
     entries: &[Entry],
     items: &[HistItem<'_>],
+    front: usize,
 ) -> Result<Vec<Option<Vec<Row>>>, RunFault>
     requires stands { Stands (spec_view spec.now) }
     requires regular { IsRegular (spec_view spec.now) (blocks_of blocks.now) (map entry_view entries.now) items.now }
+    requires front { front ≡ segment_start items.now (wanted (spec_view spec.now) (map entry_view entries.now)) }
+    requires within { front ≤ length items.now }
     ensures { IfOk result (λ tables. Shown (blocks_of blocks.now) (length (spec_view spec.now).sessions)
         (front_of (spec_view spec.now) (map entry_view entries.now) items.now) (map string_bytes names.now) (tables_view tables.items)) }
 {
-    let len = front_len(alloc, spec, entries, items)?;
-    rows_behind(alloc, spec, blocks, names, &items[..len])
+    rows_behind(alloc, spec, blocks, names, &items[..front])
 }
 
-/// The outcome of a permutation that has this history.
+/// The outcome of a permutation that has this history, of which so many items come before the teardowns.
 pub fn outcome_of<'t>(
     alloc: Global,
     spec: &Spec<'_>,
@@ -131,14 +133,17 @@ pub fn outcome_of<'t>(
     names: &[String],
     entries: &[Entry],
     items: &[HistItem<'t>],
+    front: usize,
 ) -> Result<RunOutcome<'t>, RunFault>
     requires stands { Stands (spec_view spec.now) }
     requires regular { IsRegular (spec_view spec.now) (blocks_of blocks.now) (map entry_view entries.now) items.now }
+    requires front { front ≡ segment_start items.now (wanted (spec_view spec.now) (map entry_view entries.now)) }
+    requires within { front ≤ length items.now }
     ensures answers { IfOk result (λ o. answers_told o ≡ answers_of (spec_view spec.now) items.now) }
     ensures tables { IfOk result (λ o. Shown (blocks_of blocks.now) (length (spec_view spec.now).sessions)
         (front_of (spec_view spec.now) (map entry_view entries.now) items.now) (map string_bytes names.now) (tables_view o.tables.items)) }
 {
+    let tables = tables_of(alloc, spec, blocks, names, entries, items, front)?;
     let answers = answers_of(alloc, spec, items)?;
-    let tables = tables_of(alloc, spec, blocks, names, entries, items)?;
     Ok(RunOutcome { answers, tables })
 }

@@ -10,7 +10,7 @@ ghost use Rattle.outcome_counts.specs.Counts.{Fate, HasRoom, counts_view};
 ghost use Rattle.run_outcomes.specs.Counting.{AllCounted, ComesTo, IsFate};
 ghost use Rattle.run_outcomes.specs.Judging.{AllJudged, IsJudged};
 
-use crate::ending::{Ending, ending_in};
+use crate::ending::{Ending, ended_in};
 use crate::outcome::{outcome_of, tables_made};
 use crate::play::play;
 use crate::serial::serial_orders;
@@ -43,6 +43,11 @@ pub struct Outcomes<'t> {
     pub judged: Vec<Judged<'t>>,
 }
 
+impl<'t> Outcomes<'t> {
+    /// Lets go of them. A caller that drops them proves anew how each of their parts is dropped.
+    pub fn end(self) {}
+}
+
 /// Why a permutation was not set up.
 fn setup_fault(
     alloc: Global,
@@ -73,7 +78,8 @@ fn count_history<'t>(
     requires regular { IsRegular (spec_view spec.now) (blocks_of blocks.now) (map entry_view entries.now) items.now }
     ensures { OnOk result ((fate : Fate) × IsFate (spec_view spec.now) (blocks_of blocks.now) (map string_bytes names.now) (map entry_view entries.now) items.now fate × IsOneMore (counts_view counted.old) (counts_view counted.new) fate) }
 {
-    match ending_in(alloc, spec, entries, items)? {
+    let ended = ended_in(alloc, spec, entries, items)?;
+    match ended.ending {
         Ending::NotSetUp => Err(setup_fault(alloc, spec, entries, items)),
         Ending::Blocked => {
             counted.add_blocked();
@@ -84,7 +90,7 @@ fn count_history<'t>(
             Ok(())
         }
         Ending::Whole => {
-            let outcome = outcome_of(alloc, spec, blocks, names, entries, items)?;
+            let outcome = outcome_of(alloc, spec, blocks, names, entries, items, ended.front)?;
             counted.add(alloc, outcome, entries)?;
             Ok(())
         }

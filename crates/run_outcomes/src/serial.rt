@@ -1,6 +1,6 @@
 //! Serial orders of transactions, and their outcomes.
 
-ghost use Rattle.std.specs.Prelude.{◌<◌, ◌^◌, ◌↔◌, IfOk, IsTrue, MatchOption, OnOk, length, map, string_bytes};
+ghost use Rattle.std.specs.Prelude.{◌≡◌, ◌≤◌, ◌<◌, ◌^◌, ◌↔◌, IfOk, IsTrue, MatchOption, OnOk, length, map, string_bytes};
 ghost use Rattle.sql_blocks.specs.Blocks.{blocks_of};
 ghost use Rattle.permutation_plans.specs.Regular.{IsRegular};
 ghost use Rattle.spec_parser.specs.Trees.{entry_view, spec_view};
@@ -9,9 +9,12 @@ ghost use Rattle.outcome_counts.specs.declared.outcome.RunOutcome.{RunOutcome};
 ghost use Rattle.outcome_verdicts.specs.Transactions.{list_view};
 ghost use Rattle.outcome_verdicts.specs.Verdicts.{StandFor};
 ghost use Rattle.outcome_verdicts.specs.Code.Adding.{IsTold};
+ghost use Rattle.report_lines.specs.Starts.{segment_start};
+ghost use Rattle.report_text.specs.Code.Turns.{setup_numbers};
+ghost use Rattle.run_outcomes.specs.Endings.{wanted};
 ghost use Rattle.run_outcomes.specs.Judging.{AreSerialEntries, IsSerialIn, IsSerialOrder, IsSerialRun};
 
-use crate::ending::{Ending, ending_in, front_len, setups_len};
+use crate::ending::{Ended, Ending, ended_in};
 use crate::outcome::outcome_of;
 use crate::play::play;
 use outcome_counts::{RunOutcome, is_serial};
@@ -22,21 +25,22 @@ use spec_parser::{Entry, Spec};
 use sql_blocks::Block;
 use std::alloc::{AllocError, Global};
 
-/// Whether the entries that have this history are serial: behind the setups, and up to their end.
+/// Whether the entries that ended so in this history are serial: behind the setups, and up to their end.
 fn are_serial(
-    alloc: Global,
     spec: &Spec<'_>,
     blocks: &[Block<'_>],
     entries: &[Entry],
     items: &[HistItem<'_>],
-) -> Result<bool, AllocError>
-    requires { Stands (spec_view spec.now) }
-    ensures { IfOk result (λ are. IsTrue are ↔ AreSerialEntries (spec_view spec.now) (blocks_of blocks.now) (map entry_view entries.now) items.now) }
+    ended: Ended,
+) -> bool
+    requires stands { Stands (spec_view spec.now) }
+    requires setups { ended.setups ≡ segment_start items.now (length (setup_numbers (spec_view spec.now))) }
+    requires front { ended.front ≡ segment_start items.now (wanted (spec_view spec.now) (map entry_view entries.now)) }
+    requires within { ended.front ≤ length items.now }
+    ensures { IsTrue result ↔ AreSerialEntries (spec_view spec.now) (blocks_of blocks.now) (map entry_view entries.now) items.now }
 {
-    let setups = setups_len(alloc, spec, entries, items)?;
-    let len = front_len(alloc, spec, entries, items)?;
     let count = spec.sessions.len() as u32 + 1;
-    Ok(is_serial(blocks, count, setups, &items[..len]))
+    is_serial(blocks, count, ended.setups, &items[..ended.front])
 }
 
 /// The outcome of these entries, which have this history, if they run to their end as a serial order.
@@ -54,12 +58,13 @@ fn outcome_if_serial<'t>(
         ((o : RunOutcome) → IsSerialRun (spec_view spec.now) (blocks_of blocks.now) (map string_bytes names.now) (map entry_view entries.now) o → ⊥)
         (λ o. IsSerialRun (spec_view spec.now) (blocks_of blocks.now) (map string_bytes names.now) (map entry_view entries.now) o)) }
 {
-    match ending_in(alloc, spec, entries, items)? {
+    let ended = ended_in(alloc, spec, entries, items)?;
+    match ended.ending {
         Ending::Whole => {
-            if !are_serial(alloc, spec, blocks, entries, items)? {
+            if !are_serial(spec, blocks, entries, items, ended) {
                 return Ok(None);
             }
-            let outcome = outcome_of(alloc, spec, blocks, names, entries, items)?;
+            let outcome = outcome_of(alloc, spec, blocks, names, entries, items, ended.front)?;
             Ok(Some(outcome))
         }
         _ => Ok(None),

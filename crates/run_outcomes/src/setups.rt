@@ -1,36 +1,32 @@
-//! The setups of a permutation, by the sessions that run them.
+//! How many setups a permutation runs.
 
-ghost use Rattle.std.specs.Prelude.{◌≡◌, ◌++◌, ◌∷◌, [], map, OnOk, IfOk, if◌then◌else◌};
+ghost use Rattle.std.specs.Prelude.{◌≡◌, ◌≤◌, ◌+◌, length, map};
 ghost use Rattle.spec_parser.specs.Trees.{session_view, spec_view};
+ghost use Rattle.spec_parser.specs.Stands.{Stands};
+ghost use Rattle.iso_lexer.specs.declared.limits.TheConstants.{MOST_SESSIONS};
 ghost use Rattle.report_text.specs.Code.Turns.{session_numbers, setup_numbers};
 
 use spec_parser::{SessionPart, Spec};
-use std::alloc::{AllocError, Global};
 
-fn add_if(numbers: &mut Vec<usize>, has: bool, number: usize) -> Result<(), AllocError>
-    ensures { OnOk result (numbers.new.items ≡ numbers.old.items ++ (if has then number ∷ [] else [])) }
+/// How many of these sessions have a setup.
+fn session_setups(sessions: &[SessionPart<'_>]) -> usize
+    ensures exact { result ≡ length (session_numbers (λ s. s.setup) (map session_view sessions.now)) }
+    ensures few { result ≤ length sessions.now }
 {
-    if has {
-        numbers.push(number)?;
+    let mut number = 0usize;
+    for session in sessions {
+        if session.setup.is_some() {
+            number += 1;
+        }
     }
-    Ok(())
+    number
 }
 
-fn add_setups(numbers: &mut Vec<usize>, sessions: &[SessionPart<'_>]) -> Result<(), AllocError>
-    ensures { OnOk result (numbers.new.items ≡ numbers.old.items ++ session_numbers (λ s. s.setup) (map session_view sessions.now)) }
+/// How many setups a permutation runs: those of the file, and one of each session that has one.
+pub fn setups_in(spec: &Spec<'_>) -> usize
+    requires { Stands (spec_view spec.now) }
+    ensures exact { result ≡ length (setup_numbers (spec_view spec.now)) }
+    ensures few { result ≤ length spec.now.setups.items + MOST_SESSIONS }
 {
-    for (index, session) in sessions.iter().enumerate() {
-        add_if(numbers, session.setup.is_some(), index + 1)?;
-    }
-    Ok(())
-}
-
-/// The sessions of the setups, in their order; 0 is the control session.
-pub fn setups_of(alloc: Global, spec: &Spec<'_>) -> Result<Vec<usize>, AllocError>
-    ensures { IfOk result (λ numbers. numbers.items ≡ setup_numbers (spec_view spec.now)) }
-{
-    let mut numbers = Vec::new(alloc);
-    numbers.resize(spec.setups.len(), 0)?;
-    add_setups(&mut numbers, &spec.sessions)?;
-    Ok(numbers)
+    spec.setups.len() + session_setups(&spec.sessions)
 }

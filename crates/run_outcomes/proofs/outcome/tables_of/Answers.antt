@@ -7,5 +7,5 @@ use Rattle.run_outcomes.proofs.outcome.tables_of.Goals as goal
 
 pub rows_behind-requires-clause-legal : goal.rows_behind-requires-clause-legal
 rows_behind-requires-clause-legal c =
-    front_is_legal (blocks_of c.args.blocks.now) (length (map session_view c.args.spec.now.sessions.items)) Directed c.args.items.now c.in_ok-len.len
+    front_is_legal (blocks_of c.args.blocks.now) (length (map session_view c.args.spec.now.sessions.items)) Directed c.args.items.now c.args.front
     (c.requires.regular.state, c.requires.regular.run)

@@ -6,12 +6,12 @@ use Rattle.spec_parser.specs.Trees.{entry_view, spec_view}
 use Rattle.run_outcomes.proofs.Serially.{not_serial, not_whole}
 use Rattle.run_outcomes.proofs.serial.outcome_if_serial.Goals as goal
 
-pub returns-then-not-branch : goal.returns-then-not-branch
-returns-then-not-branch c =
+pub returns-then-not-are_serial : goal.returns-then-not-are_serial
+returns-then-not-are_serial c =
     not_serial (spec_view c.args.spec.now) (blocks_of c.args.blocks.now) (map string_bytes c.args.names.now) (map entry_view c.args.entries.now) c.args.items.now c.requires.regular
-    (λ are. false≢true (sym c.if-not-branch.true ∙ c.in_ok-are_serial-in-Whole.ensures.1 are))
+    (λ are. false≢true (sym c.if-not-are_serial.true ∙ c.are_serial.ensures.1 are))
 
 pub returns-in_default : goal.returns-in_default
 returns-in_default c =
     not_whole (spec_view c.args.spec.now) (blocks_of c.args.blocks.now) (map string_bytes c.args.names.now) (map entry_view c.args.entries.now) c.args.items.now c.requires.regular
-    (λ is. c.in_default.not-Whole (c.in_ok-ending_in.ensures ∙ is))
+    (λ is. c.in_default.not-Whole (c.in_ok-ended.ensures.ending ∙ is))
