@@ -142,6 +142,9 @@ def outcomes():
             case(f"outcomes: the example {name} prints its text, with status 0", ran.returncode == 0 and ran.stdout == text.read())
     with open(f"{folder}/specs/write_skew_at_repeatable_read.spec", "rb") as it:
         spec = it.read()
+    with open("/dev/full", "w") as full:
+        ran = subprocess.run([f"{here}/outcomes"], input=spec, stdout=full, stderr=subprocess.PIPE)
+    case("outcomes: a full device ends it with the line of a fault, with status 3", ran.returncode == 3 and ran.stderr == b"outcomes: R2 Write\n")
     case("outcomes --serial: an outcome that no serial order has gives status 4", run([f"{here}/outcomes", "--serial"], spec).returncode == 4)
     case("outcomes --limit: one permutation more ends the run, with status 1", b"R9 TooManyPermutations" in run([f"{here}/outcomes", "--limit", "69"], spec).stderr)
     a, b = (" ".join(f"step {name}{number} {{ SELECT {number}; }}" for number in range(9)) for name in "ab")

@@ -9,10 +9,10 @@ use iso_lexer::{FromStd, LONGEST_FILE, read_all};
 use outcome_text::{Answer, answer_of};
 use permutations::RunFault;
 use progress::Progress;
-use std::io::IsTerminal;
+use std::env;
+use std::io::{self, ErrorKind, IsTerminal};
 use std::process::ExitCode;
 use std::rt::Runtime;
-use std::{env, io};
 use words::{Request, USAGE, request_of};
 
 /// The status where the words of the command line are refused.
@@ -43,7 +43,7 @@ fn read_and_answer<R: Runtime + AllocGlobal>(
 }
 
 /// Prints what can happen, and gives the exit status.
-fn run<R: Runtime + AllocGlobal>(rt: &R, request: Request, is_read: bool) -> io::Result<u8> {
+fn answer<R: Runtime + AllocGlobal>(rt: &R, request: Request, is_read: bool) -> io::Result<u8> {
     match read_and_answer(rt, request, is_read) {
         Ok(answer) => {
             let text = answer.text.as_str();
@@ -61,17 +61,37 @@ fn run<R: Runtime + AllocGlobal>(rt: &R, request: Request, is_read: bool) -> io:
     }
 }
 
-fn main(rt: HostRuntime) -> io::Result<ExitCode> {
-    let words: Vec<String> = env::args(&rt)?.collect(rt.alloc())?;
+/// Does what the words of the command line ask for, and gives the exit status.
+fn run<R: Runtime + AllocGlobal>(rt: &R, is_read: bool) -> io::Result<u8> {
+    let words: Vec<String> = env::args(rt)?.collect(rt.alloc())?;
     match request_of(&words) {
         Some(request) if request.help => {
             println!(rt; "{USAGE}")?;
-            Ok(ExitCode::SUCCESS)
+            Ok(0)
         }
-        Some(request) => Ok(ExitCode::from(run(&rt, request, rt.stderr().is_terminal())?)),
+        Some(request) => answer(rt, request, is_read),
         None => {
             eprintln!(rt; "{USAGE}")?;
-            Ok(ExitCode::from(WORDS_REFUSED))
+            Ok(WORDS_REFUSED)
+        }
+    }
+}
+
+/// What failed around the run, as the isolation tester names it: memory, or a device that is written.
+fn fault_of(kind: ErrorKind) -> RunFault {
+    match kind {
+        ErrorKind::OutOfMemory => RunFault::Memory,
+        _ => RunFault::Write,
+    }
+}
+
+fn main(rt: HostRuntime) -> ExitCode {
+    match run(&rt, rt.stderr().is_terminal()) {
+        Ok(status) => ExitCode::from(status),
+        Err(fault) => {
+            let fault = fault_of(fault.kind());
+            let _ = eprintln!(rt; "outcomes: {fault}");
+            ExitCode::from(fault.status())
         }
     }
 }
