@@ -61,20 +61,23 @@ pub const QUERY: Order = Order::Launch {
 fn a_directed_run_ends_where_the_engine_refuses(rt: HostRuntime) -> Result<(), Fail> {
     let alloc = rt.alloc();
     let blocks = blocks(alloc, 4, &TEXTS)?;
-    let gate = Counting::new();
-    let no_block = Order::Launch {
-        session: 2,
-        block: NO_BLOCK,
-    };
-    let fault = directed(&rt, alloc, &blocks, QUERY, no_block, &gate)?;
-    let expected = ThreadFault::Engine(EngineFault::BlockNotAllowed);
-    holds(&rt, fault == Some(expected), "a block that isn't there");
-    holds(
-        &rt,
-        gate.asked() == 3,
-        "the gate is asked for the refused event",
-    );
-    holds(&rt, gate.told() == 2, "and isn't told of it");
+    // (session 1 has had a reply before, of which the gate must not be told again; session 2 has had none)
+    for session in 1..3 {
+        let gate = Counting::new();
+        let no_block = Order::Launch {
+            session,
+            block: NO_BLOCK,
+        };
+        let fault = directed(&rt, alloc, &blocks, QUERY, no_block, &gate)?;
+        let expected = ThreadFault::Engine(EngineFault::BlockNotAllowed);
+        holds(&rt, fault == Some(expected), "a block that isn't there");
+        holds(
+            &rt,
+            gate.asked() == 3,
+            "the gate is asked for the refused event",
+        );
+        holds(&rt, gate.told() == 2, "and isn't told of it");
+    }
     Ok(())
 }
 
