@@ -163,7 +163,55 @@ fn pass<E: Engine, S: SeatAt<E>, O: Orderings, D: Drives<E>, G: Gate, R: Wait>(
     }
 }
 
-/// Does the session's events in all runs until they are over.
+/// Does in a run all that is the session's to do, one event after the other. Says who looks at the run then.
+fn go_on<E: Engine, S: SeatAt<E>, O: Orderings, D: Drives<E>, R: Wait>(
+    rt: &R,
+    run: &Mutex<Shared<E, O, D>>,
+    seat: &mut S,
+) -> Hand {
+    let mut shared = run.lock(rt);
+    for _ in rt.forever() {
+        let Some(event) = shared.due(seat.session()) else {
+            break;
+        };
+        shared.perform(seat, event);
+        shared.ask();
+    }
+    shared.hand()
+}
+
+/// Does in each of these runs all that is the session's to do, hands them over, and wakes the thread that comes next. A run in
+/// which nothing was the session's to do ends.
+fn visit<E: Engine, S: SeatAt<E>, O: Orderings, D: Drives<E>, R: Wait>(
+    rt: &R,
+    runs: &[Mutex<Shared<E, O, D>>],
+    board: &Board,
+    session: u32,
+    seats: &mut [S],
+    looks: u64,
+) {
+    let mut hands = [0u64; MOST_SESSIONS + 1];
+    for place in 0..runs.len() {
+        if looks & bit_of(place) == 0 {
+            continue;
+        }
+        let (Some(run), Some(seat)) = (runs.get(place), seats.get_mut(place)) else {
+            return;
+        };
+        match go_on(rt, run, seat) {
+            Hand::Session(next) if next == session => {
+                let fault = ThreadFault::Engine(EngineFault::NotYourTurn);
+                give_up(rt, run, board, place, fault);
+            }
+            hand => hand_to(board, &mut hands, place, hand),
+        }
+    }
+    board.hand_over(session, &hands);
+}
+
+/// Does the session's events in all runs until they are over. An open gate isn't asked, so that one thread of the crew is awake
+/// at a time and does in each run all that it can; another is asked before each event, and may keep a thread waiting, so that
+/// each thread is woken which has something to do.
 pub fn work<E: Engine, S: SeatAt<E>, O: Orderings, D: Drives<E>, G: Gate, R: Wait>(
     rt: &R,
     runs: &[Mutex<Shared<E, O, D>>],
@@ -182,6 +230,10 @@ pub fn work<E: Engine, S: SeatAt<E>, O: Orderings, D: Drives<E>, G: Gate, R: Wai
         if looks == 0 {
             return;
         }
-        again = pass(rt, runs, board, gate, session, seats, looks);
+        if gate.is_open() {
+            visit(rt, runs, board, session, seats, looks);
+        } else {
+            again = pass(rt, runs, board, gate, session, seats, looks);
+        }
     }
 }

@@ -142,6 +142,28 @@ impl Board {
         }
     }
 
+    /// Puts what was handed to each session on its desk, and wakes one thread alone: that of the next session behind the own
+    /// one, behind the last comes the first, on whose desk something lies. Once that has done it, it wakes the next in turn.
+    pub fn hand_over(&self, own: u32, hands: &[u64]) {
+        for (desk, runs) in self.desks.iter().zip(hands) {
+            if *runs != 0 {
+                desk.runs.fetch_or(*runs, Ordering::SeqCst);
+            }
+        }
+        let behind = (own as usize).saturating_add(1);
+        let others = self
+            .desks
+            .iter()
+            .skip(behind)
+            .chain(self.desks.iter().take(behind));
+        for desk in others {
+            if desk.runs.load(Ordering::SeqCst) != 0 {
+                desk.sleeper.unpark();
+                return;
+            }
+        }
+    }
+
     /// The run at this place is over; where all are, everyone is woken.
     pub fn end(&self, place: usize) {
         let bit = bit_of(place);
