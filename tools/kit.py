@@ -336,23 +336,32 @@ def teller_of(edit):
     return found[1] if found else TELLS
 
 
-def told_by_tests(crate, edit):
-    """Tries an edit of a crate by the unproved tests that tell such ones. Returns whether a test fails or comes to no end, and what they printed."""
+def tested(teller, crate=None, edit=None):
+    """Runs a crate's tests unproved, with an edit of another crate where one is given. Returns which of them fail, or nothing where they come to no end, and what they printed."""
     with tempfile.TemporaryDirectory(prefix="rt-edits-") as room:
         shutil.copytree(f"{TOP}/crates", f"{room}/crates", ignore=shutil.ignore_patterns("out", "data", "wrong_bodies", "must-fail"))
         shutil.copy(f"{TOP}/crates.txt", room)
         shutil.copy(f"{TOP}/HANDLES", room)
-        for path, old, new in pairs_of(edit):
+        for path, old, new in pairs_of(edit) if edit else []:
             at = f"{room}/crates/{crate.name}/{path}"
             text = rtlib.text_of(at) or ""
             with open(at, "w", encoding="utf-8") as it:
                 it.write(text.replace(old, new))
         try:
-            ran = subprocess.run(["rt", "try", "--test"], cwd=f"{room}/crates/{teller_of(edit)}", capture_output=True, text=True, timeout=PATIENCE)
+            ran = subprocess.run(["rt", "try", "--test"], cwd=f"{room}/crates/{teller}", capture_output=True, text=True, timeout=PATIENCE)
         except subprocess.TimeoutExpired:
-            return True, "no end"
-        failed = re.findall(r"^test (\S+) \.\.\. (?!ok)", ran.stdout, re.M)
-        return ran.returncode != 0 and bool(failed), ", ".join(failed) or ran.stdout + ran.stderr
+            return None, "no end"
+        return re.findall(r"^test (\S+) \.\.\. (?!ok)", ran.stdout, re.M), ran.stdout + ran.stderr
+
+
+def told_by_tests(crate, edit, right):
+    """Tries an edit of a crate by the unproved tests that tell such ones. Returns whether a test fails, or comes to no end, that passes on the right body, and what was printed:
+    right is what the tests come to there."""
+    failed, said = tested(teller_of(edit), crate, edit)
+    if failed is None or right is None:
+        return failed != right, said
+    told = [it for it in failed if it not in right]
+    return bool(told), ", ".join(told) or said
 
 
 def is_sound(crate):

@@ -24,6 +24,8 @@ struct Case {
     most: usize,
 }
 
+const NONE: Count = (0, 0);
+
 const ONE: Count = (0, 1);
 
 const EACH_AND_ONE: Count = (1, 1);
@@ -51,6 +53,8 @@ const ROWS: (u32, Parts) = (1, ["INSERT INTO t VALUES (-1)", ", (", ")", " RETUR
 const SET: (u32, Parts) = (1, ["UPDATE t SET c = 8", ", c", " = 8", " RETURNING *"]);
 
 const SORTED: (u32, Parts) = (1, ["SELECT * FROM t ORDER BY c", ", c", " DESC", ""]);
+
+const NONE_PASSES: (u32, Parts) = (1, ["SELECT x FROM t WHERE x < -1 ORDER BY x", "", "", ""]);
 
 const SUMMED: (u32, Parts) = (1, ["SELECT count(*)", ", sum(c", ")", " FROM t"]);
 
@@ -99,11 +103,17 @@ const SORT_KEYS: (u32, Parts) = (1, ["SELECT x FROM t ORDER BY x", ", x + ", "",
 
 const MEMBERS: (u32, Parts) = (1, ["SELECT x FROM t WHERE x NOT IN (-1", ", -", "", ")"]);
 
-const CASES: [Case; 17] = [
+const CASES: [Case; 20] = [
     Case {
         of: "columns that are read",
         lines: &[WIDE, ONE_ROW, SORTED],
         answer: Some((ONE, EACH_AND_ONE)),
+        most: 1_001,
+    },
+    Case {
+        of: "columns of no row",
+        lines: &[WIDE, SORTED],
+        answer: Some((NONE, EACH_AND_ONE)),
         most: 1_001,
     },
     Case {
@@ -119,6 +129,12 @@ const CASES: [Case; 17] = [
         most: 1_001,
     },
     Case {
+        of: "aggregates of no row",
+        lines: &[WIDE, SUMMED],
+        answer: Some((ONE, EACH_AND_ONE)),
+        most: 1_001,
+    },
+    Case {
         of: "keys",
         lines: &[UNIQUE, ONE_ROW, SET],
         answer: Some((ONE, EACH_AND_ONE)),
@@ -128,6 +144,12 @@ const CASES: [Case; 17] = [
         of: "rows of VALUES",
         lines: &[TABLE, ROWS],
         answer: Some((EACH_AND_ONE, ONE)),
+        most: 1_001,
+    },
+    Case {
+        of: "rows none of which passes",
+        lines: &[TABLE, ROWS, NONE_PASSES],
+        answer: Some((NONE, ONE)),
         most: 1_001,
     },
     Case {
@@ -179,7 +201,7 @@ const CASES: [Case; 17] = [
             (2, ["BEGIN; UPDATE t SET x = x + 1", "", "", ""]),
             SKIPS,
         ],
-        answer: Some(((0, 0), ONE)),
+        answer: Some((NONE, ONE)),
         most: 1_001,
     },
     Case {

@@ -39,6 +39,10 @@ enum Call {
     Rows,
     /// The same by the store that links versions.
     LinkedRows,
+    /// `write` without values, of rows.
+    Deleted,
+    /// The same by the store that links versions.
+    LinkedDeleted,
     /// `begin`, `note` and `find`, of transactions that hold a key.
     Holders,
     /// The same over the store that links versions.
@@ -49,7 +53,7 @@ enum Call {
     KeyColumns,
 }
 
-const CALLS: [(Call, &'static str); 13] = [
+const CALLS: [(Call, &'static str); 15] = [
     (Call::Literal, "a string"),
     (Call::Joined, "joined strings"),
     (Call::Listed, "a list"),
@@ -59,6 +63,8 @@ const CALLS: [(Call, &'static str); 13] = [
     (Call::ResultCopied, "a result's copy"),
     (Call::Rows, "rows of a table"),
     (Call::LinkedRows, "linked rows of a table"),
+    (Call::Deleted, "deleted rows"),
+    (Call::LinkedDeleted, "deleted rows that are linked"),
     (Call::Holders, "holders of a key"),
     (Call::LinkedHolders, "holders of a key over linked rows"),
     (Call::Keys, "keys of a table"),
@@ -270,6 +276,32 @@ fn rows_are_shown<V: Versions>(
     Ok(rows.len() == size as usize)
 }
 
+/// The transaction writes a row, and then deletes it.
+fn write_and_delete<V: Versions>(alloc: Global, store: &mut V, tx: TxId) -> Result<(), AllocError> {
+    let Ok(row) = store.write(tx, 0, TABLE, None, Some(one(alloc, 1)?)) else {
+        return Err(AllocError);
+    };
+    match store.write(tx, 1, TABLE, Some(row), None) {
+        Ok(_) => Ok(()),
+        Err(_) => Err(AllocError),
+    }
+}
+
+/// A transaction sees none of the rows that it has deleted.
+fn rows_are_gone<V: Versions>(alloc: Global, store: &mut V, size: u32) -> Result<bool, AllocError> {
+    let tx = store.begin()?;
+    for _ in 0..size {
+        write_and_delete(alloc, store, tx)?;
+    }
+    let view = View {
+        tx: Some(tx),
+        commits: 0,
+        command: 2,
+    };
+    let rows = store.rows(&view, TABLE)?;
+    Ok(rows.is_empty())
+}
+
 fn all_hold<V: Versions>(alloc: Global, store: &mut V, size: u32) -> Result<bool, AllocError> {
     let index = written(alloc, store, size)?;
     let asked = one(alloc, 1)?;
@@ -314,6 +346,8 @@ fn succeeds(alloc: Global, call: Call, size: u32) -> Result<bool, AllocError> {
         Call::ResultCopied => result_copied(alloc, size),
         Call::Rows => rows_are_shown(alloc, &mut ListStore::new(alloc), size),
         Call::LinkedRows => rows_are_shown(alloc, &mut ChainStore::new(alloc), size),
+        Call::Deleted => rows_are_gone(alloc, &mut ListStore::new(alloc), size),
+        Call::LinkedDeleted => rows_are_gone(alloc, &mut ChainStore::new(alloc), size),
         Call::Holders => all_hold(alloc, &mut ListStore::new(alloc), size),
         Call::LinkedHolders => all_hold(alloc, &mut ChainStore::new(alloc), size),
         Call::Keys => keys_are_free(alloc, size),
