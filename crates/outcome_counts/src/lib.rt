@@ -15,4 +15,4 @@ pub use answers::answers_of;
 pub use counted::{Counted, Group, copied_entries};
 pub use outcome::RunOutcome;
 pub use serial::is_serial;
-pub use standing::Standing;
+pub use standing::{Standing, stmts_at};
