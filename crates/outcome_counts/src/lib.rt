@@ -11,7 +11,6 @@ mod serial;
 mod standing;
 
 pub use alike::{same_answers, same_table, same_tables};
-pub use answers::answers_of;
 pub use counted::{Counted, Group, copied_entries};
 pub use outcome::RunOutcome;
 pub use serial::is_serial;

@@ -1,207 +1,147 @@
-//! The whole text, and the lines of its table.
+//! What can happen, as text: outcomes side by side, and below them what is said of each.
 
-use crate::cells::Part;
-use crate::columns::{Line, put_columns};
-use crate::details::put_details;
-use crate::heading::put_heading;
-use crate::names::{put_outcome_name, put_verdict};
 use crate::text::Text;
-use run_outcomes::Outcomes;
-use spec_parser::Spec;
-use std::alloc::{AllocError, Global};
+use crate::told::{Class, Nearest, Told, is_shown, text_in};
 
 /// So many outcomes stand side by side; more are listed one below the other.
 const MOST_COLUMNS: usize = 6;
 
-/// What a line of the table says of each outcome.
-#[derive(Clone, Copy)]
-enum Row {
-    Name,
-    Of(Part),
-    Count,
-    Verdict,
+/// Between two columns.
+const GAP: usize = 2;
+
+fn chars_in(text: &str) -> usize {
+    text.chars().count()
 }
 
-/// Puts what a line says of the outcome of this number.
-fn put_cell(out: &mut Text, spec: &Spec<'_>, outcomes: &Outcomes<'_>, number: usize, row: Row) {
-    let (Some(group), Some(judged)) = (
-        outcomes.counted.groups.get(number),
-        outcomes.judged.get(number),
-    ) else {
-        return;
-    };
-    match row {
-        Row::Name => put_outcome_name(out, number),
-        Row::Of(part) => part.put(out, &group.outcome),
-        Row::Count => out.put_count(group.count),
-        Row::Verdict => put_verdict(out, spec, &judged.verdict),
-    }
-}
-
-/// So many outcomes from this one on.
-#[derive(Clone, Copy)]
-pub struct Span {
-    pub first: usize,
-    pub count: usize,
-}
-
-fn cells_of(
-    alloc: Global,
-    spec: &Spec<'_>,
-    outcomes: &Outcomes<'_>,
-    span: Span,
-    row: Row,
-) -> Result<Vec<String>, AllocError> {
-    let mut cells = Vec::new(alloc);
-    for at in 0..span.count {
-        let mut cell = Text::new(alloc, false);
-        let number = span.first.saturating_add(at);
-        put_cell(&mut cell, spec, outcomes, number, row);
-        cells.push(cell.end()?)?;
-    }
-    Ok(cells)
-}
-
-fn is_told(cells: &[String]) -> bool {
+/// How wide a column of cells is.
+pub fn width_of(cells: &[String]) -> usize {
+    let mut width = 0usize;
     for cell in cells {
-        if !cell.is_empty() {
-            return true;
+        for line in cell.as_str().lines() {
+            width = width.max(chars_in(line));
         }
     }
-    false
+    width
 }
 
-/// Whether a line is shown: that of a step only where the step answered something in one of the outcomes.
-fn is_shown(row: Row, cells: &[String]) -> bool {
-    match row {
-        Row::Of(Part::Step(_)) => is_told(cells),
-        _ => true,
+/// How wide the heads of the rows that are shown are.
+fn head_width(rows: &[String], outcomes: &[Told]) -> usize {
+    let mut width = 0usize;
+    for (row, head) in rows.iter().enumerate() {
+        if is_shown(outcomes, row) {
+            width = width.max(chars_in(head.as_str()));
+        }
+    }
+    width
+}
+
+/// How many lines the highest cell of a row has.
+fn height_of(outcomes: &[Told], row: usize) -> usize {
+    let mut height = 1usize;
+    for told in outcomes {
+        height = height.max(text_in(&told.cells, row).lines().count());
+    }
+    height
+}
+
+/// The line of this number of a cell, without the spaces at its end; empty where it has fewer.
+fn line_at(cell: &str, number: usize) -> &str {
+    match cell.lines().nth(number) {
+        Some(text) => text.trim_end(),
+        None => "",
     }
 }
 
-/// Adds a line, if it is shown.
-fn push_line(
-    alloc: Global,
-    lines: &mut Vec<Line>,
-    spec: &Spec<'_>,
-    outcomes: &Outcomes<'_>,
-    span: Span,
-    row: Row,
+/// Puts what stands in a column of this width, behind so many spaces that are due, and returns how many are due behind it. Nothing is
+/// put where nothing stands.
+fn put_at(out: &mut Text, due: usize, width: usize, text: &str) -> usize {
+    if text.is_empty() {
+        return due.saturating_add(width).saturating_add(GAP);
+    }
+    for _ in 0..due {
+        out.put(" ");
+    }
+    out.put(text);
+    width.saturating_sub(chars_in(text)).saturating_add(GAP)
+}
+
+/// Puts the lines of this number of the cells of a row.
+fn put_line(
+    out: &mut Text,
     head: &str,
-) -> Result<(), AllocError> {
-    let cells = cells_of(alloc, spec, outcomes, span, row)?;
-    if !is_shown(row, &cells) {
-        return Ok(());
+    width: usize,
+    outcomes: &[Told],
+    row: usize,
+    number: usize,
+) {
+    let mut due = put_at(out, GAP, width, head);
+    for told in outcomes {
+        let text = line_at(text_in(&told.cells, row), number);
+        due = put_at(out, due, told.width, text);
     }
-    let head = String::from_str(alloc, head)?;
-    lines.push(Line { head, cells })?;
-    Ok(())
+    out.put("\n");
 }
 
-/// Adds the lines of all steps and tables.
-fn push_parts(
-    alloc: Global,
-    lines: &mut Vec<Line>,
-    spec: &Spec<'_>,
-    steps: &[String],
-    outcomes: &Outcomes<'_>,
-    span: Span,
-) -> Result<(), AllocError> {
-    for (number, name) in steps.iter().enumerate() {
-        let row = Row::Of(Part::Step(number));
-        push_line(alloc, lines, spec, outcomes, span, row, name.as_str())?;
+/// Puts a row of the table.
+fn put_row(out: &mut Text, head: &str, width: usize, outcomes: &[Told], row: usize) {
+    put_line(out, head, width, outcomes, row, 0);
+    for number in 1..height_of(outcomes, row) {
+        put_line(out, "", width, outcomes, row, number);
     }
-    for (number, name) in outcomes.tables.iter().enumerate() {
-        let row = Row::Of(Part::Table(number));
-        push_line(alloc, lines, spec, outcomes, span, row, name.as_str())?;
+}
+
+/// Puts some outcomes side by side.
+fn put_table(out: &mut Text, rows: &[String], outcomes: &[Told]) {
+    let width = head_width(rows, outcomes);
+    for (row, head) in rows.iter().enumerate() {
+        if is_shown(outcomes, row) {
+            put_row(out, head.as_str(), width, outcomes, row);
+        }
     }
-    Ok(())
 }
 
-fn push_lines(
-    alloc: Global,
-    lines: &mut Vec<Line>,
-    spec: &Spec<'_>,
-    steps: &[String],
-    outcomes: &Outcomes<'_>,
-    span: Span,
-) -> Result<(), AllocError> {
-    push_line(alloc, lines, spec, outcomes, span, Row::Name, "")?;
-    push_parts(alloc, lines, spec, steps, outcomes, span)?;
-    push_line(
-        alloc,
-        lines,
-        spec,
-        outcomes,
-        span,
-        Row::Count,
-        "permutations",
-    )?;
-    push_line(alloc, lines, spec, outcomes, span, Row::Verdict, "verdict")
+/// Puts the serial order that is nearest to an outcome, and in what they differ.
+pub fn put_nearest(out: &mut Text, rows: &[String], nearest: &Nearest) {
+    out.tell(nearest.order.as_str());
+    let mut before = ", where ";
+    for difference in &nearest.differences {
+        out.put(before);
+        out.tell(text_in(rows, difference.row));
+        out.put(" gives ");
+        out.tell_lines(difference.serial.as_str(), "; ");
+        before = ", ";
+    }
 }
 
-/// The lines of some outcomes.
-pub fn lines_of(
-    alloc: Global,
-    spec: &Spec<'_>,
-    steps: &[String],
-    outcomes: &Outcomes<'_>,
-    span: Span,
-) -> Result<Vec<Line>, AllocError> {
-    let mut lines = Vec::new(alloc);
-    push_lines(alloc, &mut lines, spec, steps, outcomes, span)?;
-    Ok(lines)
+/// Puts the permutation of an outcome, and of one that is not serial the nearest serial order.
+fn put_detail(out: &mut Text, rows: &[String], told: &Told) {
+    out.put("  ");
+    out.put(told.name());
+    out.put(": ");
+    out.put(told.permutation.as_str());
+    out.put("\n");
+    if let Some(nearest) = &told.nearest {
+        out.put("     nearest: ");
+        put_nearest(out, rows, nearest);
+        out.put("\n");
+    } else if told.class == Class::NotSerial {
+        out.put("     no order of the transactions is serial\n");
+    }
 }
 
-/// Puts the table of some outcomes.
-fn put_table(
-    alloc: Global,
-    out: &mut Text,
-    spec: &Spec<'_>,
-    steps: &[String],
-    outcomes: &Outcomes<'_>,
-    span: Span,
-) -> Result<(), AllocError> {
-    let lines = lines_of(alloc, spec, steps, outcomes, span)?;
-    put_columns(alloc, out, &lines, span.count)
-}
-
-/// Puts the tables of all outcomes, each behind an empty line.
-fn put_tables(
-    alloc: Global,
-    out: &mut Text,
-    spec: &Spec<'_>,
-    steps: &[String],
-    outcomes: &Outcomes<'_>,
-) -> Result<(), AllocError> {
-    let groups = outcomes.counted.groups.as_slice();
-    let columns = if groups.len() <= MOST_COLUMNS {
+/// Puts what can happen, behind the heading.
+pub fn put_plain(out: &mut Text, rows: &[String], outcomes: &[Told]) {
+    let columns = if outcomes.len() <= MOST_COLUMNS {
         MOST_COLUMNS
     } else {
         1
     };
-    for (number, shown) in groups.chunks(columns).enumerate() {
-        let span = Span {
-            first: number.saturating_mul(columns),
-            count: shown.len(),
-        };
+    for shown in outcomes.chunks(columns) {
         out.put("\n");
-        put_table(alloc, out, spec, steps, outcomes, span)?;
+        put_table(out, rows, shown);
     }
     out.put("\n");
-    Ok(())
-}
-
-/// Puts what can happen, as text.
-pub fn put_text(
-    alloc: Global,
-    out: &mut Text,
-    spec: &Spec<'_>,
-    steps: &[String],
-    outcomes: &Outcomes<'_>,
-) -> Result<(), AllocError> {
-    put_heading(out, outcomes);
-    put_tables(alloc, out, spec, steps, outcomes)?;
-    put_details(out, spec, steps, outcomes);
-    Ok(())
+    for told in outcomes {
+        put_detail(out, rows, told);
+    }
 }

@@ -17,10 +17,19 @@ use sql_trees::Stmt;
 use std::alloc::{AllocError, Global};
 
 /// A transaction, or what of one a permutation has: steps of one session, by their numbers in it.
-#[derive(Drop)]
 pub struct Transaction {
     pub session: u32,
     pub steps: Vec<u32>,
+}
+
+/// Written out, as that of `RunOutcome`.
+impl Drop for Transaction {
+    fn drop(self) {
+        let Transaction {
+            session: _,
+            steps: _,
+        } = self;
+    }
 }
 
 impl Transaction {

@@ -1,0 +1,73 @@
+//! The interleaving of an outcome, drawn: a column for each session, and a row for each step in the order in which they start.
+
+use crate::markup::{put_in, put_lines};
+use crate::names::Names;
+use crate::text::Text;
+use crate::told::{Nearest, Place, Told, text_in};
+
+/// What the nearest serial order has in this row, if that is another.
+fn other<'n>(nearest: &'n Option<Nearest>, row: usize) -> Option<&'n str> {
+    let Some(nearest) = nearest else {
+        return None;
+    };
+    for difference in &nearest.differences {
+        if difference.row == row {
+            return Some(difference.serial.as_str());
+        }
+    }
+    None
+}
+
+/// Puts the cell of a step, marked where the nearest serial order has another answer.
+fn put_cell(out: &mut Text, names: &Names, told: &Told, row: usize) {
+    let other = other(&told.nearest, row);
+    out.put(if other.is_some() {
+        "<td class=\"step differs\">"
+    } else {
+        "<td class=\"step\">"
+    });
+    put_in(out, "<b>", text_in(&names.rows, row), "</b>");
+    let sql = text_in(&names.sqls, row.saturating_sub(1));
+    put_in(out, "<span class=\"sql\">", sql, "</span>");
+    put_lines(
+        out,
+        "<span class=\"answer\">",
+        text_in(&told.cells, row),
+        "</span>",
+    );
+    if let Some(serial) = other {
+        put_lines(out, "<span class=\"mark\">serial: ", serial, "</span>");
+    }
+}
+
+/// Puts the row of a step.
+fn put_row(out: &mut Text, names: &Names, told: &Told, number: usize, place: Place) {
+    out.put("<tr><th scope=\"row\" class=\"number\">");
+    out.put_count(number as u64);
+    out.put("</th>");
+    for session in 1..names.sessions.len().saturating_add(1) {
+        if session == place.session {
+            put_cell(out, names, told, place.row);
+        } else {
+            out.put("<td>");
+        }
+        out.put("</td>");
+    }
+    out.put("</tr>\n");
+}
+
+/// Puts the interleaving of an outcome; steps that answer otherwise in the nearest serial order are marked.
+pub fn put_interleaving(out: &mut Text, names: &Names, told: &Told) {
+    out.put(
+        "<div class=\"scroll\" role=\"region\" aria-label=\"interleaving\" tabindex=\"0\"><table class=\"run\">\n",
+    );
+    out.put("<thead><tr><th scope=\"col\" class=\"number\">#</th>");
+    for session in &names.sessions {
+        put_in(out, "<th scope=\"col\">", session.as_str(), "</th>");
+    }
+    out.put("</tr></thead>\n<tbody>\n");
+    for (at, place) in told.steps.iter().enumerate() {
+        put_row(out, names, told, at.saturating_add(1), *place);
+    }
+    out.put("</tbody></table></div>\n");
+}
