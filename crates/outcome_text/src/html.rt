@@ -1,7 +1,6 @@
 //! What can happen, as a page of HTML that fetches nothing.
 
 use crate::interleaving::put_interleaving;
-use crate::markup::{HEAD, put_in, put_lines};
 use crate::names::Names;
 use crate::plain::put_nearest;
 use crate::text::Text;
@@ -9,24 +8,25 @@ use crate::told::{Class, Told, is_shown, text_in};
 
 /// Puts the names of the outcomes, each a link to its part of the page.
 fn put_links(out: &mut Text, outcomes: &[Told]) {
-    out.put("<thead><tr><th></th>");
     for told in outcomes {
-        put_in(
-            out,
+        let name = told.name();
+        out.put_all(&[
             "<th scope=\"col\"><a href=\"#outcome-",
-            told.name(),
+            name,
             "\">",
-        );
-        put_in(out, "", told.name(), "</a></th>");
+            name,
+            "</a></th>",
+        ]);
     }
-    out.put("</tr></thead>\n<tbody>\n");
 }
 
 /// Puts a row of the table.
 fn put_row(out: &mut Text, head: &str, outcomes: &[Told], row: usize) {
-    put_in(out, "<tr><th scope=\"row\">", head, "</th>");
+    out.put_all(&["<tr><th scope=\"row\">", head, "</th>"]);
     for told in outcomes {
-        put_lines(out, "<td>", text_in(&told.cells, row), "</td>");
+        out.put("<td>");
+        out.tell_lines(text_in(&told.cells, row), "<br>");
+        out.put("</td>");
     }
     out.put("</tr>\n");
 }
@@ -34,9 +34,10 @@ fn put_row(out: &mut Text, head: &str, outcomes: &[Told], row: usize) {
 /// Puts the table of outcomes.
 fn put_table(out: &mut Text, rows: &[String], outcomes: &[Told]) {
     out.put(
-        "<div class=\"scroll\" role=\"region\" aria-label=\"outcomes\" tabindex=\"0\"><table>\n",
+        "<div class=\"scroll\" role=\"region\" aria-label=\"outcomes\" tabindex=\"0\"><table>\n<thead><tr><th></th>",
     );
     put_links(out, outcomes);
+    out.put("</tr></thead>\n<tbody>\n");
     for (row, head) in rows.iter().enumerate() {
         if row > 0 && is_shown(outcomes, row) {
             put_row(out, head.as_str(), outcomes, row);
@@ -56,11 +57,20 @@ fn class_name(class: Class) -> &'static str {
 
 /// Puts the heading of an outcome: its name and its verdict; and its permutation.
 fn put_title(out: &mut Text, told: &Told) {
-    put_in(out, "<section id=\"outcome-", told.name(), "\">\n<h2>");
-    put_in(out, "", told.name(), " <span class=\"");
-    put_in(out, class_name(told.class), "", "\">");
-    put_in(out, "", told.verdict(), "</span></h2>\n");
-    put_in(out, "<p><code>", told.permutation.as_str(), "</code></p>\n");
+    let name = told.name();
+    out.put_all(&[
+        "<section id=\"outcome-",
+        name,
+        "\">\n<h2>",
+        name,
+        " <span class=\"",
+        class_name(told.class),
+        "\">",
+        told.verdict(),
+        "</span></h2>\n<p><code>",
+        told.permutation.as_str(),
+        "</code></p>\n",
+    ]);
 }
 
 /// Puts what is said of an outcome.

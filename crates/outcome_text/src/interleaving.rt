@@ -1,6 +1,5 @@
 //! The interleaving of an outcome, drawn: a column for each session, and a row for each step in the order in which they start.
 
-use crate::markup::{put_in, put_lines};
 use crate::names::Names;
 use crate::text::Text;
 use crate::told::{Nearest, Place, Told, text_in};
@@ -21,23 +20,21 @@ fn other<'n>(nearest: &'n Option<Nearest>, row: usize) -> Option<&'n str> {
 /// Puts the cell of a step, marked where the nearest serial order has another answer.
 fn put_cell(out: &mut Text, names: &Names, told: &Told, row: usize) {
     let other = other(&told.nearest, row);
-    out.put(if other.is_some() {
-        "<td class=\"step differs\">"
-    } else {
-        "<td class=\"step\">"
-    });
-    put_in(out, "<b>", text_in(&names.rows, row), "</b>");
-    let sql = text_in(&names.sqls, row.saturating_sub(1));
-    put_in(out, "<span class=\"sql\">", sql, "</span>");
-    put_lines(
-        out,
-        "<span class=\"answer\">",
-        text_in(&told.cells, row),
-        "</span>",
-    );
+    out.put_all(&[
+        "<td class=\"step",
+        if other.is_some() { " differs" } else { "" },
+        "\"><b>",
+        text_in(&names.rows, row),
+        "</b><span class=\"sql\">",
+        text_in(&names.sqls, row.saturating_sub(1)),
+        "</span><span class=\"answer\">",
+    ]);
+    out.tell_lines(text_in(&told.cells, row), "<br>");
     if let Some(serial) = other {
-        put_lines(out, "<span class=\"mark\">serial: ", serial, "</span>");
+        out.put("</span><span class=\"mark\">serial: ");
+        out.tell_lines(serial, "<br>");
     }
+    out.put("</span>");
 }
 
 /// Puts the row of a step.
@@ -59,11 +56,10 @@ fn put_row(out: &mut Text, names: &Names, told: &Told, number: usize, place: Pla
 /// Puts the interleaving of an outcome; steps that answer otherwise in the nearest serial order are marked.
 pub fn put_interleaving(out: &mut Text, names: &Names, told: &Told) {
     out.put(
-        "<div class=\"scroll\" role=\"region\" aria-label=\"interleaving\" tabindex=\"0\"><table class=\"run\">\n",
+        "<div class=\"scroll\" role=\"region\" aria-label=\"interleaving\" tabindex=\"0\"><table class=\"run\">\n<thead><tr><th scope=\"col\" class=\"number\">#</th>",
     );
-    out.put("<thead><tr><th scope=\"col\" class=\"number\">#</th>");
     for session in &names.sessions {
-        put_in(out, "<th scope=\"col\">", session.as_str(), "</th>");
+        out.put_all(&["<th scope=\"col\">", session.as_str(), "</th>"]);
     }
     out.put("</tr></thead>\n<tbody>\n");
     for (at, place) in told.steps.iter().enumerate() {

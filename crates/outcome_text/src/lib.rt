@@ -12,6 +12,7 @@ mod names;
 mod plain;
 mod telling;
 mod text;
+mod texts;
 mod told;
 
 pub use answer::{Answer, answer_of};

@@ -1,20 +1,4 @@
-//! Pieces of a page of HTML.
-
-use crate::text::Text;
-
-/// Puts text between an opening and a closing tag.
-pub fn put_in(out: &mut Text, open: &str, text: &str, close: &str) {
-    out.put(open);
-    out.tell(text);
-    out.put(close);
-}
-
-/// Puts the lines of a cell between an opening and a closing tag, each below the other.
-pub fn put_lines(out: &mut Text, open: &str, cell: &str, close: &str) {
-    out.put(open);
-    out.tell_lines(cell, "<br>");
-    out.put(close);
-}
+//! How a page of HTML begins.
 
 /// What stands before the heading.
 pub const HEAD: &str = r##"<!DOCTYPE html>

@@ -1,6 +1,7 @@
 //! Names of sessions, steps and outcomes, and verdicts in a few words.
 
 use crate::text::Text;
+use crate::texts::Texts;
 use outcome_verdicts::{Verdict, step_number};
 use run_outcomes::written;
 use spec_parser::{SessionPart, Spec};
@@ -33,47 +34,35 @@ pub struct Names {
     pub sqls: Vec<String>,
 }
 
+/// Adds the names of a session's steps, and their SQL.
+fn add_steps(alloc: Global, rows: &mut Texts, sqls: &mut Texts, session: &SessionPart<'_>) {
+    for step in &session.steps {
+        rows.add(written(alloc, &step.name));
+        sqls.add(String::from_str(alloc, step.part.sql.trim()));
+    }
+}
+
 impl Names {
-    /// Adds the steps of a session.
-    fn push_steps(&mut self, alloc: Global, session: &SessionPart<'_>) -> Result<(), AllocError> {
-        for step in &session.steps {
-            self.rows.push(written(alloc, &step.name)?)?;
-            self.sqls
-                .push(String::from_str(alloc, step.part.sql.trim())?)?;
-        }
-        Ok(())
-    }
-
-    /// Adds a row.
-    fn push_row(&mut self, alloc: Global, head: &str) -> Result<(), AllocError> {
-        self.rows.push(String::from_str(alloc, head)?)?;
-        Ok(())
-    }
-
-    /// Adds the sessions with their steps.
-    fn push_sessions(&mut self, alloc: Global, spec: &Spec<'_>) -> Result<(), AllocError> {
-        for session in &spec.sessions {
-            self.sessions.push(written(alloc, &session.name)?)?;
-            self.push_steps(alloc, session)?;
-        }
-        Ok(())
-    }
-
     /// The names in a spec, and these of its tables.
     pub fn of(alloc: Global, spec: &Spec<'_>, tables: &[String]) -> Result<Names, AllocError> {
-        let mut names = Names {
-            sessions: Vec::new(alloc),
-            rows: Vec::new(alloc),
-            sqls: Vec::new(alloc),
-        };
-        names.push_row(alloc, "")?;
-        names.push_sessions(alloc, spec)?;
-        for table in tables {
-            names.push_row(alloc, table.as_str())?;
+        let mut sessions = Texts::new(alloc);
+        let mut rows = Texts::new(alloc);
+        let mut sqls = Texts::new(alloc);
+        rows.add(Ok(String::new(alloc)));
+        for session in &spec.sessions {
+            sessions.add(written(alloc, &session.name));
+            add_steps(alloc, &mut rows, &mut sqls, session);
         }
-        names.push_row(alloc, "permutations")?;
-        names.push_row(alloc, "verdict")?;
-        Ok(names)
+        for table in tables {
+            rows.add(String::from_str(alloc, table.as_str()));
+        }
+        rows.add(String::from_str(alloc, "permutations"));
+        rows.add(String::from_str(alloc, "verdict"));
+        Ok(Names {
+            sessions: sessions.end()?,
+            rows: rows.end()?,
+            sqls: sqls.end()?,
+        })
     }
 
     /// Puts the names of sessions, which are numbered from 1, with commas between.

@@ -105,9 +105,7 @@ pub fn put_nearest(out: &mut Text, rows: &[String], nearest: &Nearest) {
     out.tell(nearest.order.as_str());
     let mut before = ", where ";
     for difference in &nearest.differences {
-        out.put(before);
-        out.tell(text_in(rows, difference.row));
-        out.put(" gives ");
+        out.put_all(&[before, text_in(rows, difference.row), " gives "]);
         out.tell_lines(difference.serial.as_str(), "; ");
         before = ", ";
     }
@@ -115,11 +113,7 @@ pub fn put_nearest(out: &mut Text, rows: &[String], nearest: &Nearest) {
 
 /// Puts the permutation of an outcome, and of one that is not serial the nearest serial order.
 fn put_detail(out: &mut Text, rows: &[String], told: &Told) {
-    out.put("  ");
-    out.put(told.name());
-    out.put(": ");
-    out.put(told.permutation.as_str());
-    out.put("\n");
+    out.put_all(&["  ", told.name(), ": ", told.permutation.as_str(), "\n"]);
     if let Some(nearest) = &told.nearest {
         out.put("     nearest: ");
         put_nearest(out, rows, nearest);

@@ -3,6 +3,7 @@
 use crate::cells::{cell_of, is_same, parts_in};
 use crate::names::{Names, count_text, outcome_name};
 use crate::plain::width_of;
+use crate::texts::Texts;
 use crate::told::{Class, Difference, Nearest, Place, Told};
 use outcome_counts::{Group, RunOutcome};
 use outcome_verdicts::{SerialOrder, Verdict, step_number};
@@ -80,14 +81,14 @@ fn cells_of(
     group: &Group<'_>,
     verdict: &Verdict,
 ) -> Result<Vec<String>, AllocError> {
-    let mut cells = Vec::new(alloc);
-    cells.push(outcome_name(alloc, number)?)?;
+    let mut cells = Texts::new(alloc);
+    cells.add(outcome_name(alloc, number));
     for part in 0..parts_in(&group.outcome) {
-        cells.push(cell_of(alloc, &group.outcome, part)?)?;
+        cells.add(cell_of(alloc, &group.outcome, part));
     }
-    cells.push(count_text(alloc, group.count)?)?;
-    cells.push(names.of_verdict(alloc, spec, verdict)?)?;
-    Ok(cells)
+    cells.add(count_text(alloc, group.count));
+    cells.add(names.of_verdict(alloc, spec, verdict));
+    cells.end()
 }
 
 /// The permutation of these entries, as a line of a spec file.

@@ -98,6 +98,19 @@ impl Text {
         }
     }
 
+    /// Puts pieces by turns: the first as it stands, the next as it is to be read, and so on.
+    pub fn put_all(&mut self, pieces: &[&str]) {
+        let mut is_told = false;
+        for piece in pieces {
+            if is_told {
+                self.tell(piece);
+            } else {
+                self.put(piece);
+            }
+            is_told = !is_told;
+        }
+    }
+
     /// Puts the lines of a cell, with this between.
     pub fn tell_lines(&mut self, cell: &str, between: &str) {
         for (at, line) in cell.lines().enumerate() {

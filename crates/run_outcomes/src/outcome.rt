@@ -12,7 +12,7 @@ ghost use Rattle.run_outcomes.specs.Endings.{front_of, wanted};
 ghost use Rattle.run_outcomes.specs.Tables.{Shown, tables_view};
 
 use crate::replay::replayed;
-use iso_lexer::{Name, Page, write_name};
+use iso_lexer::Name;
 use outcome_counts::{RunOutcome, stmts_at};
 use permutations::RunFault;
 use row_versions::ListStore;
@@ -26,9 +26,8 @@ use std::alloc::{AllocError, Global};
 
 /// What a name stands for.
 pub fn written(alloc: Global, name: &Name<'_>) -> Result<String, AllocError> {
-    let mut page = Page::new(alloc);
-    write_name(&mut page, name).map_err(|_| AllocError)?;
-    match std::str::from_utf8(page.bytes()) {
+    let bytes = name.push_to(alloc, Vec::new(alloc))?;
+    match std::str::from_utf8(&bytes) {
         Ok(text) => String::from_str(alloc, text),
         Err(_) => Ok(String::new(alloc)),
     }
