@@ -64,7 +64,9 @@ fn put_title(out: &mut Text, told: &Told) {
         "\">\n<h2>",
         name,
         " <span class=\"",
-        class_name(told.class),
+    ]);
+    out.put(class_name(told.class));
+    out.put_all(&[
         "\">",
         told.verdict(),
         "</span></h2>\n<p><code>",
