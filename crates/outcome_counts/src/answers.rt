@@ -3,12 +3,12 @@
 ghost use Rattle.std.specs.Prelude.{◌≡◌, ◌≤◌, ◌++◌, ◌&&◌, IfOk, OnOk, flat_map, length, map};
 ghost use Rattle.std.specs.List.{enumerate_from};
 ghost use Rattle.iso_lexer.specs.declared.limits.TheConstants.{MOST_SESSIONS};
-ghost use Rattle.spec_parser.specs.Trees.{session_view, spec_view, step_view, StepTree};
-ghost use Rattle.outcome_counts.specs.Outcomes.{answers_in, answers_of, is_answer, is_in, is_step_of, session_answers};
+ghost use Rattle.spec_parser.specs.Trees.{session_view, step_view, StepTree};
+ghost use Rattle.outcome_counts.specs.Outcomes.{answers_in, is_answer, is_in, is_step_of, session_answers};
 ghost use Rattle.outcome_counts.specs.Inner.Answers.{lists_of};
 
 use session_machine::{Event, HistItem, Outcome};
-use spec_parser::{SessionPart, Spec, StepPart};
+use spec_parser::{SessionPart, StepPart};
 use std::alloc::{AllocError, Global};
 
 /// Whether a statement is over with this.
@@ -93,7 +93,7 @@ fn push_answers<'t>(
 }
 
 /// Adds what each step of these sessions answered.
-fn push_sessions<'t>(
+pub fn push_sessions<'t>(
     alloc: Global,
     answers: &mut Vec<Vec<Outcome<'t>>>,
     items: &[HistItem<'t>],
@@ -106,18 +106,4 @@ fn push_sessions<'t>(
         push_answers(alloc, answers, items, place as u32 + 1, &session.steps)?;
     }
     Ok(())
-}
-
-/// What each step of the file answered, in its order.
-pub fn answers_of<'t>(
-    alloc: Global,
-    spec: &Spec<'_>,
-    items: &[HistItem<'t>],
-) -> Result<Vec<Vec<Outcome<'t>>>, AllocError>
-    requires { length (spec_view spec.now).sessions ≤ MOST_SESSIONS }
-    ensures { IfOk result (λ answers. lists_of answers.items ≡ answers_of (spec_view spec.now) items.now) }
-{
-    let mut answers = Vec::new(alloc);
-    push_sessions(alloc, &mut answers, items, &spec.sessions)?;
-    Ok(answers)
 }

@@ -11,7 +11,6 @@ use std::alloc::{AllocError, Global};
 
 /// Permutations of one outcome: how many, and of these the one that goes least often from one session to another, with how often
 /// it does.
-#[derive(Drop)]
 pub struct Group<'t> {
     pub outcome: RunOutcome<'t>,
     pub count: u64,
@@ -19,12 +18,34 @@ pub struct Group<'t> {
     pub switches: usize,
 }
 
+/// Written out, as that of `RunOutcome`.
+impl<'t> Drop for Group<'t> {
+    fn drop(self) {
+        let Group {
+            outcome: _,
+            count: _,
+            nearest: _,
+            switches: _,
+        } = self;
+    }
+}
+
 /// How many permutations can't be run, how many end in a wait, and the others by their outcomes.
-#[derive(Drop)]
 pub struct Counted<'t> {
     pub blocked: u64,
     pub waiting: u64,
     pub groups: Vec<Group<'t>>,
+}
+
+/// Written out, as that of `RunOutcome`.
+impl<'t> Drop for Counted<'t> {
+    fn drop(self) {
+        let Counted {
+            blocked: _,
+            waiting: _,
+            groups: _,
+        } = self;
+    }
 }
 
 /// How often the entries go from one session to another.

@@ -11,8 +11,7 @@ mod serial;
 mod standing;
 
 pub use alike::{same_answers, same_table, same_tables};
-pub use answers::answers_of;
 pub use counted::{Counted, Group, copied_entries};
 pub use outcome::RunOutcome;
 pub use serial::is_serial;
-pub use standing::Standing;
+pub use standing::{Standing, stmts_at};

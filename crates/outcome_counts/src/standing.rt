@@ -1,6 +1,6 @@
 //! What a session has open, by a history.
 
-ghost use Rattle.std.specs.Prelude.{◌≡◌, ◌<◌, ◌^◌, MatchOption, None, Some, slice_get};
+ghost use Rattle.std.specs.Prelude.{◌≡◌, map};
 ghost use Rattle.sql_trees.specs.Statements.{stmt_of};
 ghost use Rattle.sql_blocks.specs.Blocks.{blocks_of};
 ghost use Rattle.session_machine.specs.Machine.{stmts_of};
@@ -68,18 +68,21 @@ impl Standing {
     }
 }
 
-/// The statement that comes next.
-fn next_stmt<'b, 't>(blocks: &'b [Block<'t>], s: Standing) -> Option<&'b Stmt<'t>>
-    ensures { MatchOption result (slice_get (stmts_of (blocks_of blocks.now) s.block) s.next ≡ None)
-        (λ stmt. (slice_get (stmts_of (blocks_of blocks.now) s.block) s.next ≡ Some (stmt_of stmt.now)) × (s.next < 2 ^ 63)) }
+/// The statements of the block of this number; none where there is no such block.
+pub fn stmts_at<'b, 't>(blocks: &'b [Block<'t>], number: u32) -> &'b [Stmt<'t>]
+    ensures { map stmt_of result.now ≡ stmts_of (blocks_of blocks.now) number }
 {
-    blocks.get(s.block as usize)?.stmts().get(s.next)
+    let number = number as usize;
+    if number >= blocks.len() {
+        return &[];
+    }
+    blocks[number].stmts()
 }
 
 fn after_next(blocks: &[Block<'_>], s: Standing) -> Standing
     ensures { result ≡ after_next (blocks_of blocks.now) s }
 {
-    match next_stmt(blocks, s) {
+    match stmts_at(blocks, s.block).get(s.next) {
         Some(stmt) => Standing {
             next: s.next + 1,
             ..s.after_work(stmt)

@@ -3,11 +3,14 @@
 ghost use Rattle.spec_parser.specs.Stands.{Stands};
 ghost use Rattle.spec_parser.specs.Trees.{spec_view};
 
-use crate::heading::not_serial;
-use crate::html::put_html;
-use crate::names::step_names;
-use crate::page::put_text;
+use crate::heading::{not_serial_in, put_heading};
+use crate::html::put_page;
+use crate::markup::HEAD;
+use crate::names::Names;
+use crate::plain::put_plain;
+use crate::telling::told_all;
 use crate::text::Text;
+use crate::told::Told;
 use permutations::{RunFault, read_file};
 use run_outcomes::{Outcomes, Watch, outcomes_of};
 use spec_parser::Spec;
@@ -21,6 +24,19 @@ pub struct Answer {
     pub serial: bool,
 }
 
+/// Puts the heading, and what is said of each outcome.
+fn put_told(out: &mut Text, names: &Names, outcomes: &Outcomes<'_>, told: &[Told], is_html: bool) {
+    if is_html {
+        out.put(HEAD);
+        put_heading(out, outcomes);
+        out.put("</p>\n");
+        put_page(out, names, told);
+    } else {
+        put_heading(out, outcomes);
+        put_plain(out, &names.rows, told);
+    }
+}
+
 /// What is printed of the outcomes of a spec.
 fn answer_in(
     alloc: Global,
@@ -28,15 +44,12 @@ fn answer_in(
     outcomes: &Outcomes<'_>,
     is_html: bool,
 ) -> Result<Answer, AllocError> {
+    let names = Names::of(alloc, spec, &outcomes.tables)?;
+    let told = told_all(alloc, spec, &names, outcomes)?;
     let mut out = Text::new(alloc, is_html);
-    let steps = step_names(alloc, spec)?;
-    if is_html {
-        put_html(alloc, &mut out, spec, &steps, outcomes)?;
-    } else {
-        put_text(alloc, &mut out, spec, &steps, outcomes)?;
-    }
-    let serial = not_serial(outcomes) == 0;
+    put_told(&mut out, &names, outcomes, &told, is_html);
     let text = out.end()?;
+    let serial = not_serial_in(&outcomes.judged) == 0;
     Ok(Answer { text, serial })
 }
 
@@ -52,9 +65,7 @@ fn answer_of_spec<W: Watch>(
     requires { Stands (spec_view spec.now) }
 {
     let outcomes = outcomes_of(alloc, spec, blocks, limit, watch)?;
-    let answer = answer_in(alloc, spec, &outcomes, is_html);
-    outcomes.end();
-    Ok(answer?)
+    Ok(answer_in(alloc, spec, &outcomes, is_html)?)
 }
 
 /// Runs the permutations of the spec file that these bytes are, up to so many, and says what can happen: as text, or as a page of

@@ -1,12 +1,13 @@
-//! What stands of an answer, or of a table's rows, in a column: a line a row, each with its newline.
+//! What an outcome has in each of its parts: what a step answered, or the rows of a table. A part is told by its number: the steps in
+//! the order of the file, and behind them the tables.
 
 use crate::text::Text;
 use outcome_counts::{RunOutcome, same_answers, same_table};
-use query_results::ResultSet;
 use session_machine::{Outcome, StmtFault};
 use sql_values::{Row, Value};
+use std::alloc::{AllocError, Global};
 
-/// How a failure is told in a column.
+/// How a failure is told in a cell.
 fn short_fault(fault: &StmtFault<'_>) -> &'static str {
     match fault {
         StmtFault::Deadlock => "ERROR deadlock\n",
@@ -49,69 +50,55 @@ fn put_rows(out: &mut Text, rows: &[Row]) {
     }
 }
 
-fn put_result(out: &mut Text, set: &ResultSet<'_>) {
-    put_rows(out, set.rows());
-}
-
-/// Puts the lines of an answer; a statement that worked and has no result has none.
-fn put_answer(out: &mut Text, answer: &Outcome<'_>) {
-    match answer {
-        Outcome::Rows(set) => put_result(out, set),
-        Outcome::Failed(fault) => out.put(short_fault(fault)),
-        _ => {}
-    }
-}
-
-/// Puts what a step answered.
+/// Puts what a step answered; a statement that worked and has no result has no line.
 fn put_answers(out: &mut Text, answers: &[Outcome<'_>]) {
     for answer in answers {
-        put_answer(out, answer);
-    }
-}
-
-/// Puts the rows of a table.
-fn put_table(out: &mut Text, rows: &Option<Vec<Row>>) {
-    match rows {
-        Some(rows) => put_rows(out, rows),
-        None => out.put("no table\n"),
-    }
-}
-
-/// A part of an outcome: what the step of this number answered, or the rows of the table of this number.
-#[derive(Clone, Copy)]
-pub enum Part {
-    Step(usize),
-    Table(usize),
-}
-
-impl Part {
-    /// Puts what it is in an outcome.
-    pub fn put(self, out: &mut Text, outcome: &RunOutcome<'_>) {
-        match self {
-            Part::Step(number) => {
-                if let Some(answers) = outcome.answers.get(number) {
-                    put_answers(out, answers);
-                }
-            }
-            Part::Table(number) => {
-                if let Some(rows) = outcome.tables.get(number) {
-                    put_table(out, rows);
-                }
-            }
+        match answer {
+            Outcome::Rows(set) => put_rows(out, set.rows()),
+            Outcome::Failed(fault) => out.put(short_fault(fault)),
+            _ => {}
         }
     }
+}
 
-    /// Whether it is the same in both outcomes.
-    pub fn is_same(self, a: &RunOutcome<'_>, b: &RunOutcome<'_>) -> bool {
-        match self {
-            Part::Step(number) => match (a.answers.get(number), b.answers.get(number)) {
-                (Some(x), Some(y)) => same_answers(x, y),
-                _ => true,
-            },
-            Part::Table(number) => match (a.tables.get(number), b.tables.get(number)) {
-                (Some(x), Some(y)) => same_table(x, y),
-                _ => true,
-            },
-        }
+/// Puts what an outcome has in a part.
+fn put_part(out: &mut Text, outcome: &RunOutcome<'_>, part: usize) {
+    let table = part.saturating_sub(outcome.answers.len());
+    if let Some(answers) = outcome.answers.get(part) {
+        put_answers(out, answers);
+    } else if let Some(Some(rows)) = outcome.tables.get(table) {
+        put_rows(out, rows);
+    } else {
+        out.put("no table\n");
     }
+}
+
+/// What an outcome has in a part: a line a row, each with its newline.
+pub fn cell_of(alloc: Global, outcome: &RunOutcome<'_>, part: usize) -> Result<String, AllocError> {
+    let mut cell = Text::new(alloc, false);
+    put_part(&mut cell, outcome, part);
+    cell.end()
+}
+
+/// How many parts an outcome has.
+pub fn parts_in(outcome: &RunOutcome<'_>) -> usize {
+    outcome.answers.len().saturating_add(outcome.tables.len())
+}
+
+/// Whether both outcomes have the same in a part.
+pub fn is_same(a: &RunOutcome<'_>, b: &RunOutcome<'_>, part: usize) -> bool {
+    if let Some(answers) = a.answers.get(part) {
+        return match b.answers.get(part) {
+            Some(others) => same_answers(answers, others),
+            None => true,
+        };
+    }
+    let table = part.saturating_sub(a.answers.len());
+    if let Some(rows) = a.tables.get(table) {
+        return match b.tables.get(table) {
+            Some(others) => same_table(rows, others),
+            None => true,
+        };
+    }
+    true
 }

@@ -4,15 +4,16 @@
 
 mod answer;
 mod cells;
-mod columns;
-mod details;
 mod heading;
 mod html;
 mod interleaving;
 mod markup;
 mod names;
-mod page;
+mod plain;
+mod telling;
 mod text;
+mod texts;
+mod told;
 
 pub use answer::{Answer, answer_of};
 pub use run_outcomes::Watch;

@@ -1,64 +1,6 @@
-//! Text in a page of HTML.
+//! How a page of HTML begins.
 
-use crate::text::Text;
-use std::alloc::AllocError;
-
-/// The picture of NUL; those of the control characters after it follow.
-const FIRST_CONTROL_PICTURE: u32 = 0x2400;
-
-const UNKNOWN: char = '\u{fffd}';
-
-/// What stands for a character that shows nothing.
-fn shown(ch: char) -> char {
-    let code = u32::from(ch);
-    if ch == '\n' || ch == '\t' {
-        ch
-    } else if code < 32 {
-        char::from_u32(FIRST_CONTROL_PICTURE.saturating_add(code)).unwrap_or(UNKNOWN)
-    } else if ch.is_control() {
-        UNKNOWN
-    } else {
-        ch
-    }
-}
-
-/// What stands for a character that a page of HTML gives a meaning of its own.
-fn named(ch: char) -> Option<&'static str> {
-    match ch {
-        '<' => Some("&lt;"),
-        '>' => Some("&gt;"),
-        '&' => Some("&amp;"),
-        '"' => Some("&quot;"),
-        '\'' => Some("&#39;"),
-        _ => None,
-    }
-}
-
-/// Puts text as it is to be read.
-pub fn put_escaped(out: &mut String, text: &str) -> Result<(), AllocError> {
-    for ch in text.chars() {
-        match named(ch) {
-            Some(name) => out.push_str(name)?,
-            None => out.push(shown(ch))?,
-        }
-    }
-    Ok(())
-}
-
-/// Puts text between an opening and a closing tag.
-pub fn put_in(out: &mut Text, open: &str, text: &str, close: &str) {
-    out.put(open);
-    out.tell(text);
-    out.put(close);
-}
-
-/// Puts the lines of a cell between an opening and a closing tag, each below the other.
-pub fn put_lines(out: &mut Text, open: &str, cell: &str, close: &str) {
-    out.put(open);
-    out.tell_lines(cell, "<br>");
-    out.put(close);
-}
-
+/// What stands before the heading.
 pub const HEAD: &str = r##"<!DOCTYPE html>
 <html lang="en">
 <head>
@@ -100,4 +42,6 @@ th { background: var(--head); font-weight: 600 }
 </style>
 </head>
 <body>
-"##;
+<main>
+<h1 id="outcomes">What can happen</h1>
+<p>"##;

@@ -1,98 +1,132 @@
-//! Names of sessions, steps, tables and outcomes, and verdicts in a few words.
+//! Names of sessions, steps and outcomes, and verdicts in a few words.
 
 use crate::text::Text;
-use outcome_verdicts::Verdict;
-use permutation_lists::line_of;
+use crate::texts::Texts;
+use outcome_verdicts::{Verdict, step_number};
 use run_outcomes::written;
-use spec_parser::{Entry, Spec, StepPart, session_numbered};
+use spec_parser::{SessionPart, Spec};
 use std::alloc::{AllocError, Global};
 
 const LETTERS: &str = "ABCDEFGHIJKLMNOPQRSTUVWXYZ";
 
-/// Puts the name of the outcome of this number: a letter, or behind the last one a number.
-pub fn put_outcome_name(out: &mut Text, number: usize) {
+/// The name of the outcome of this number: a letter, or behind the last one a number.
+pub fn outcome_name(alloc: Global, number: usize) -> Result<String, AllocError> {
+    let mut name = Text::new(alloc, false);
     match LETTERS.chars().nth(number) {
-        Some(letter) => out.put_char(letter),
-        None => out.put_count((number as u64).saturating_add(1)),
+        Some(letter) => name.put_char(letter),
+        None => name.put_count((number as u64).saturating_add(1)),
+    }
+    name.end()
+}
+
+pub fn count_text(alloc: Global, count: u64) -> Result<String, AllocError> {
+    let mut text = Text::new(alloc, false);
+    text.put_count(count);
+    text.end()
+}
+
+/// The names of the sessions, the head of each row of the table, and the SQL of each step.
+#[derive(Drop)]
+pub struct Names {
+    pub sessions: Vec<String>,
+    /// Nothing, the names of all steps in the order of the file and of the tables, and two words.
+    pub rows: Vec<String>,
+    pub sqls: Vec<String>,
+}
+
+/// Adds the names of a session's steps, and their SQL.
+fn add_steps(alloc: Global, rows: &mut Texts, sqls: &mut Texts, session: &SessionPart<'_>) {
+    for step in &session.steps {
+        rows.add(written(alloc, &step.name));
+        sqls.add(String::from_str(alloc, step.part.sql.trim()));
     }
 }
 
-fn put_session(out: &mut Text, spec: &Spec<'_>, session: u32) {
-    if let Some(part) = session_numbered(&spec.sessions, session as usize) {
-        out.tell_name(&part.name);
-    }
-}
-
-fn push_step_names(
-    alloc: Global,
-    names: &mut Vec<String>,
-    steps: &[StepPart<'_>],
-) -> Result<(), AllocError> {
-    for step in steps {
-        names.push(written(alloc, &step.name)?)?;
-    }
-    Ok(())
-}
-
-/// The names of all steps, in the order of the file.
-pub fn step_names(alloc: Global, spec: &Spec<'_>) -> Result<Vec<String>, AllocError> {
-    let mut names = Vec::new(alloc);
-    for session in &spec.sessions {
-        push_step_names(alloc, &mut names, &session.steps)?;
-    }
-    Ok(names)
-}
-
-/// Puts the names of sessions, with commas between.
-pub fn put_sessions(out: &mut Text, spec: &Spec<'_>, sessions: &[u32]) {
-    for (at, session) in sessions.iter().enumerate() {
-        if at > 0 {
-            out.put(", ");
+impl Names {
+    /// The names in a spec, and these of its tables.
+    pub fn of(alloc: Global, spec: &Spec<'_>, tables: &[String]) -> Result<Names, AllocError> {
+        let mut sessions = Texts::new(alloc);
+        let mut rows = Texts::new(alloc);
+        let mut sqls = Texts::new(alloc);
+        rows.add(Ok(String::new(alloc)));
+        for session in &spec.sessions {
+            sessions.add(written(alloc, &session.name));
+            add_steps(alloc, &mut rows, &mut sqls, session);
         }
-        put_session(out, spec, *session);
-    }
-}
-
-/// Puts that the transactions of these sessions fail, and in which order the others have the outcome.
-fn put_rest(out: &mut Text, spec: &Spec<'_>, failed: &[u32], rest: &[u32]) {
-    put_sessions(out, spec, failed);
-    out.put(if failed.len() == 1 {
-        " fails, "
-    } else {
-        " fail, "
-    });
-    if rest.is_empty() {
-        out.put("nothing else");
-    } else {
-        out.put("the rest as ");
-        put_sessions(out, spec, rest);
-    }
-}
-
-/// Puts that the step goes on behind the end of a transaction.
-fn put_untold(out: &mut Text, spec: &Spec<'_>, session: u32, step: u32) {
-    out.put("untold: ");
-    if let Some(part) = spec.step_numbered(session, step) {
-        out.tell_name(&part.name);
-    }
-    out.put(" goes on behind the end of a transaction");
-}
-
-/// Puts a verdict.
-pub fn put_verdict(out: &mut Text, spec: &Spec<'_>, verdict: &Verdict) {
-    match verdict {
-        Verdict::Serial(order) => {
-            out.put("as ");
-            put_sessions(out, spec, order);
+        for table in tables {
+            rows.add(String::from_str(alloc, table.as_str()));
         }
-        Verdict::RestSerial { failed, rest } => put_rest(out, spec, failed, rest),
-        Verdict::NotSerial => out.put("NOT SERIAL"),
-        Verdict::Untold { session, step } => put_untold(out, spec, *session, *step),
+        rows.add(String::from_str(alloc, "permutations"));
+        rows.add(String::from_str(alloc, "verdict"));
+        Ok(Names {
+            sessions: sessions.end()?,
+            rows: rows.end()?,
+            sqls: sqls.end()?,
+        })
     }
-}
 
-/// Puts the permutation of these entries, as a line of a spec file.
-pub fn put_permutation(out: &mut Text, spec: &Spec<'_>, entries: &[Entry]) {
-    let line = line_of(out.alloc(), spec, entries);
-    out.tell_line(line);
+    /// Puts the names of sessions, which are numbered from 1, with commas between.
+    fn put_sessions(&self, out: &mut Text, sessions: &[u32]) {
+        for (at, session) in sessions.iter().enumerate() {
+            if at > 0 {
+                out.put(", ");
+            }
+            if let Some(name) = self.sessions.get((*session as usize).saturating_sub(1)) {
+                out.put(name.as_str());
+            }
+        }
+    }
+
+    pub fn of_sessions(&self, alloc: Global, sessions: &[u32]) -> Result<String, AllocError> {
+        let mut text = Text::new(alloc, false);
+        self.put_sessions(&mut text, sessions);
+        text.end()
+    }
+
+    /// Puts that the transactions of these sessions fail, and in which order the others have the outcome.
+    fn put_rest(&self, out: &mut Text, failed: &[u32], rest: &[u32]) {
+        self.put_sessions(out, failed);
+        out.put(if failed.len() == 1 {
+            " fails, "
+        } else {
+            " fail, "
+        });
+        out.put(if rest.is_empty() {
+            "nothing else"
+        } else {
+            "the rest as "
+        });
+        self.put_sessions(out, rest);
+    }
+
+    /// Puts that the step of this number goes on behind the end of a transaction.
+    fn put_untold(&self, out: &mut Text, step: usize) {
+        out.put("untold: ");
+        if let Some(name) = self.rows.get(step.saturating_add(1)) {
+            out.put(name.as_str());
+        }
+        out.put(" goes on behind the end of a transaction");
+    }
+
+    /// A verdict in a few words.
+    pub fn of_verdict(
+        &self,
+        alloc: Global,
+        spec: &Spec<'_>,
+        verdict: &Verdict,
+    ) -> Result<String, AllocError> {
+        let mut words = Text::new(alloc, false);
+        match verdict {
+            Verdict::Serial(order) => {
+                words.put("as ");
+                self.put_sessions(&mut words, order);
+            }
+            Verdict::RestSerial { failed, rest } => self.put_rest(&mut words, failed, rest),
+            Verdict::NotSerial => words.put("NOT SERIAL"),
+            Verdict::Untold { session, step } => {
+                self.put_untold(&mut words, step_number(spec, *session, *step));
+            }
+        }
+        words.end()
+    }
 }

@@ -1,15 +1,42 @@
 //! Text that is put piece by piece, as it stands or on a page of HTML.
 
-use crate::markup::put_escaped;
-use iso_lexer::Name;
-use run_outcomes::written;
 use std::alloc::{AllocError, Global};
 use std::fmt::Write;
+
+/// The picture of NUL; those of the control characters after it follow.
+const FIRST_CONTROL_PICTURE: u32 = 0x2400;
+
+const UNKNOWN: char = '\u{fffd}';
+
+/// What stands for a character that shows nothing.
+fn shown(ch: char) -> char {
+    let code = u32::from(ch);
+    if ch == '\n' || ch == '\t' {
+        ch
+    } else if code < 32 {
+        char::from_u32(FIRST_CONTROL_PICTURE.saturating_add(code)).unwrap_or(UNKNOWN)
+    } else if ch.is_control() {
+        UNKNOWN
+    } else {
+        ch
+    }
+}
+
+/// What stands for a character that a page of HTML gives a meaning of its own.
+fn named(ch: char) -> Option<&'static str> {
+    match ch {
+        '<' => Some("&lt;"),
+        '>' => Some("&gt;"),
+        '&' => Some("&amp;"),
+        '"' => Some("&quot;"),
+        '\'' => Some("&#39;"),
+        _ => None,
+    }
+}
 
 /// What was put so far; or that memory was refused for a piece, whereupon no further one is put, and who takes the text is told.
 #[derive(Drop)]
 pub struct Text {
-    alloc: Global,
     is_page: bool,
     so_far: Result<String, AllocError>,
 }
@@ -18,7 +45,6 @@ impl Text {
     /// No text, to be read as it stands, or on a page.
     pub fn new(alloc: Global, is_page: bool) -> Text {
         Text {
-            alloc,
             is_page,
             so_far: Ok(String::new(alloc)),
         }
@@ -34,17 +60,6 @@ impl Text {
     pub fn put(&mut self, piece: &str) {
         if let Ok(text) = &mut self.so_far {
             let put = text.push_str(piece);
-            self.keep(put);
-        }
-    }
-
-    /// Puts a piece as it is to be read: on a page what has a meaning there is written otherwise.
-    pub fn tell(&mut self, piece: &str) {
-        if !self.is_page {
-            return self.put(piece);
-        }
-        if let Ok(text) = &mut self.so_far {
-            let put = put_escaped(text, piece);
             self.keep(put);
         }
     }
@@ -70,11 +85,29 @@ impl Text {
         }
     }
 
-    /// Puts what a name stands for.
-    pub fn tell_name(&mut self, name: &Name<'_>) {
-        match written(self.alloc, name) {
-            Ok(name) => self.tell(name.as_str()),
-            Err(fault) => self.so_far = Err(fault),
+    /// Puts a piece as it is to be read: on a page what has a meaning there is written otherwise.
+    pub fn tell(&mut self, piece: &str) {
+        if !self.is_page {
+            return self.put(piece);
+        }
+        for ch in piece.chars() {
+            match named(ch) {
+                Some(name) => self.put(name),
+                None => self.put_char(shown(ch)),
+            }
+        }
+    }
+
+    /// Puts pieces by turns: the first as it stands, the next as it is to be read, and so on.
+    pub fn put_all(&mut self, pieces: &[&str]) {
+        let mut is_told = false;
+        for piece in pieces {
+            if is_told {
+                self.tell(piece);
+            } else {
+                self.put(piece);
+            }
+            is_told = !is_told;
         }
     }
 
@@ -86,36 +119,6 @@ impl Text {
             }
             self.tell(line);
         }
-    }
-
-    /// The same of a cell that was put.
-    pub fn tell_cell(&mut self, cell: Text, between: &str) {
-        match cell.end() {
-            Ok(cell) => self.tell_lines(cell.as_str(), between),
-            Err(fault) => self.so_far = Err(fault),
-        }
-    }
-
-    /// Puts a line of bytes, without its end.
-    pub fn tell_line(&mut self, line: Result<Vec<u8>, AllocError>) {
-        match line {
-            Ok(line) => {
-                if let Ok(text) = std::str::from_utf8(line.as_slice()) {
-                    self.tell(text.trim_end());
-                }
-            }
-            Err(fault) => self.so_far = Err(fault),
-        }
-    }
-
-    /// An empty cell.
-    pub fn cell(&self) -> Text {
-        Text::new(self.alloc, false)
-    }
-
-    /// Where it takes memory from.
-    pub fn alloc(&self) -> Global {
-        self.alloc
     }
 
     /// What was put.

@@ -1,14 +1,16 @@
 //! Whether transactions can be left out: a step that is part of another one too can't.
 
-ghost use Rattle.std.specs.Prelude.{◌≡◌, false, true, Contains, MatchOption, map};
+ghost use Rattle.std.specs.Prelude.{◌≡◌, false, true, Contains, MatchOption, map, option_map};
 ghost use Rattle.std.specs.List.{list_any};
 ghost use Rattle.sql_trees.specs.Statements.{stmt_of};
 ghost use Rattle.sql_blocks.specs.Blocks.{blocks_of};
-ghost use Rattle.spec_parser.specs.Trees.{spec_view};
+ghost use Rattle.spec_parser.specs.Trees.{StepTree, spec_view};
+ghost use Rattle.spec_parser.specs.Numbered.{step_numbered};
 ghost use Rattle.outcome_verdicts.specs.Transactions.{transaction_view};
 ghost use Rattle.outcome_verdicts.specs.Failures.{CanBeLeftOut, IsMixed, goes_on, is_end, stmts_go_on};
 
 use crate::transactions::Transaction;
+use outcome_counts::stmts_at;
 use spec_parser::Spec;
 use sql_blocks::Block;
 use sql_trees::Stmt;
@@ -37,15 +39,19 @@ fn stmts_go_on(stmts: &[Stmt<'_>]) -> bool
     any_end(&stmts[..stmts.len().saturating_sub(1)])
 }
 
+/// The block of a session's step.
+fn block_of(spec: &Spec<'_>, session: u32, step: u32) -> Option<u32>
+    ensures { result ≡ option_map (λ (s : StepTree). s.part.block) (step_numbered (spec_view spec.now) session step) }
+{
+    Some(spec.step_numbered(session, step)?.part.block)
+}
+
 /// Whether the session's step goes on behind the end of a transaction.
 fn goes_on(spec: &Spec<'_>, blocks: &[Block<'_>], session: u32, step: u32) -> bool
     ensures { result ≡ goes_on (spec_view spec.now) (blocks_of blocks.now) session step }
 {
-    let Some(part) = spec.step_numbered(session, step) else {
-        return false;
-    };
-    match blocks.get(part.part.block as usize) {
-        Some(block) => stmts_go_on(block.stmts()),
+    match block_of(spec, session, step) {
+        Some(block) => stmts_go_on(stmts_at(blocks, block)),
         None => false,
     }
 }

@@ -15,10 +15,19 @@ use spec_parser::Spec;
 use std::alloc::{AllocError, Global};
 
 /// A serial order of transactions, by their sessions, and its outcome.
-#[derive(Drop)]
 pub struct SerialOrder<'t> {
     pub sessions: Vec<u32>,
     pub outcome: RunOutcome<'t>,
+}
+
+/// Written out, as that of `RunOutcome`.
+impl<'t> Drop for SerialOrder<'t> {
+    fn drop(self) {
+        let SerialOrder {
+            sessions: _,
+            outcome: _,
+        } = self;
+    }
 }
 
 /// The first of the orders that has the outcome.

@@ -10,16 +10,26 @@ ghost use Rattle.spec_parser.specs.Stands.{Stands};
 ghost use Rattle.outcome_verdicts.specs.Transactions.{cut, in_front, is_open_after, is_open_at_first, is_open_behind, is_open_behind_step, list_view, of_session, steps_of, transaction_view, transactions_in, transactions_of};
 ghost use Rattle.outcome_verdicts.specs.Inner.Cutting.{with_rest};
 
+use outcome_counts::stmts_at;
 use spec_parser::{Entry, Part, SessionPart, Spec};
 use sql_blocks::Block;
 use sql_trees::Stmt;
 use std::alloc::{AllocError, Global};
 
 /// A transaction, or what of one a permutation has: steps of one session, by their numbers in it.
-#[derive(Drop)]
 pub struct Transaction {
     pub session: u32,
     pub steps: Vec<u32>,
+}
+
+/// Written out, as that of `RunOutcome`.
+impl Drop for Transaction {
+    fn drop(self) {
+        let Transaction {
+            session: _,
+            steps: _,
+        } = self;
+    }
 }
 
 impl Transaction {
@@ -59,10 +69,7 @@ fn is_open_after_all(begun: bool, stmts: &[Stmt<'_>]) -> bool
 fn is_open_behind(blocks: &[Block<'_>], begun: bool, part: &Part<'_>) -> bool
     ensures { result ≡ is_open_behind (blocks_of blocks.now) begun (part_view part.now) }
 {
-    match blocks.get(part.block as usize) {
-        Some(block) => is_open_after_all(begun, block.stmts()),
-        None => begun,
-    }
+    is_open_after_all(begun, stmts_at(blocks, part.block))
 }
 
 /// Whether one is open behind the session's setup.

@@ -4,7 +4,7 @@
 mod ending;
 mod outcome;
 mod outcomes;
-mod play;
+mod replay;
 mod serial;
 mod setups;
 mod verdict;

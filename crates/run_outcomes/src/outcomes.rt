@@ -12,7 +12,6 @@ ghost use Rattle.run_outcomes.specs.Judging.{AllJudged, IsJudged};
 
 use crate::ending::{Ending, ended_in};
 use crate::outcome::{outcome_of, tables_made};
-use crate::play::play;
 use crate::serial::serial_orders;
 use crate::verdict::verdict_of;
 use crate::watch::Watch;
@@ -21,21 +20,30 @@ use outcome_counts::{Counted, Group};
 use outcome_verdicts::{SerialOrder, Verdict, transactions_of};
 use permutation_lists::Permutations;
 use permutations::{RunFault, write_permutation};
+use plain_runs::run_alone;
 use session_machine::HistItem;
 use spec_parser::{Entry, Spec};
 use sql_blocks::Block;
 use std::alloc::Global;
 
 /// The verdict on an outcome, and the serial orders beside which it was held.
-#[derive(Drop)]
 pub struct Judged<'t> {
     pub verdict: Verdict,
     pub orders: Vec<SerialOrder<'t>>,
 }
 
+/// Written out, as that of `RunOutcome`.
+impl<'t> Drop for Judged<'t> {
+    fn drop(self) {
+        let Judged {
+            verdict: _,
+            orders: _,
+        } = self;
+    }
+}
+
 /// What can happen: the tables that the file makes, how many permutations there are, how they are counted, and a verdict on each of
 /// their outcomes.
-#[derive(Drop)]
 pub struct Outcomes<'t> {
     pub tables: Vec<String>,
     pub permutations: u64,
@@ -43,9 +51,16 @@ pub struct Outcomes<'t> {
     pub judged: Vec<Judged<'t>>,
 }
 
-impl<'t> Outcomes<'t> {
-    /// Lets go of them. A caller that drops them proves anew how each of their parts is dropped.
-    pub fn end(self) {}
+/// Written out, as that of `RunOutcome`.
+impl<'t> Drop for Outcomes<'t> {
+    fn drop(self) {
+        let Outcomes {
+            tables: _,
+            permutations: _,
+            counted: _,
+            judged: _,
+        } = self;
+    }
 }
 
 /// Why a permutation was not set up.
@@ -110,19 +125,9 @@ fn count_one<'t>(
     requires room { HasRoom (counts_view counted.old) }
     ensures { OnOk result ((fate : Fate) × ComesTo (spec_view spec.now) (blocks_of blocks.now) (map string_bytes names.now) (map entry_view entries.now) fate × IsOneMore (counts_view counted.old) (counts_view counted.new) fate) }
 {
-    let engine = play(alloc, spec, blocks, entries)?;
-    let answer = count_history(
-        alloc,
-        spec,
-        blocks,
-        names,
-        entries,
-        engine.history(),
-        counted,
-    );
-    engine.end();
-    answer?;
-    Ok(())
+    let engine = run_alone(alloc, spec, blocks, entries)?;
+    let items = engine.history();
+    count_history(alloc, spec, blocks, names, entries, items, counted)
 }
 
 /// Runs the permutations of a spec, up to so many, and counts them.

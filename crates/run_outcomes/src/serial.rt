@@ -16,10 +16,10 @@ ghost use Rattle.run_outcomes.specs.Judging.{AreSerialEntries, IsSerialIn, IsSer
 
 use crate::ending::{Ended, Ending, ended_in};
 use crate::outcome::outcome_of;
-use crate::play::play;
 use outcome_counts::{RunOutcome, is_serial};
 use outcome_verdicts::{SerialOrder, Transaction, add_order, counts_of, entries_in_order};
 use permutations::{Interleavings, RunFault};
+use plain_runs::run_alone;
 use session_machine::HistItem;
 use spec_parser::{Entry, Spec};
 use sql_blocks::Block;
@@ -84,10 +84,8 @@ fn serial_outcome<'t>(
         ((o : RunOutcome) → IsSerialRun (spec_view spec.now) (blocks_of blocks.now) (map string_bytes names.now) (map entry_view entries.now) o → ⊥)
         (λ o. IsSerialRun (spec_view spec.now) (blocks_of blocks.now) (map string_bytes names.now) (map entry_view entries.now) o)) }
 {
-    let engine = play(alloc, spec, blocks, entries)?;
-    let outcome = outcome_if_serial(alloc, spec, blocks, names, entries, engine.history());
-    engine.end();
-    outcome
+    let engine = run_alone(alloc, spec, blocks, entries)?;
+    outcome_if_serial(alloc, spec, blocks, names, entries, engine.history())
 }
 
 /// Runs the transactions in this order, and adds it if it is serial and no other one has its outcome.

@@ -1,5 +1,5 @@
 use Rattle.run_outcomes.proofs.Redoing.{redone}
-use Rattle.run_outcomes.proofs.play.redo_one.Goals as goal
+use Rattle.run_outcomes.proofs.replay.redo_one.Goals as goal
 
 pub returns-clause-done : goal.returns-clause-done
 returns-clause-done c =

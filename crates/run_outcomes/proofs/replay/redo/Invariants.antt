@@ -1,6 +1,6 @@
 use Rattle.std.proofs.Common.{◌≡◌, take}
 use Rattle.session_core.specs.Engines.{IsOf}
-use Rattle.run_outcomes.proofs.play.redo.Given as goal
+use Rattle.run_outcomes.proofs.replay.redo.Given as goal
 
 abbrev pub invariant-loop-place : goal.invariant-loop-place
 invariant-loop-place l = record {

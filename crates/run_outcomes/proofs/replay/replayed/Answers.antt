@@ -4,7 +4,7 @@ use Rattle.sql_blocks.specs.Blocks.{blocks_of}
 use Rattle.session_machine.specs.declared.event.Mode.TheVariants.{Directed}
 use Rattle.session_machine.specs.Engine.{IsLegal}
 use Rattle.spec_parser.specs.Trees.{session_view, spec_view}
-use Rattle.run_outcomes.proofs.play.replayed.Goals as goal
+use Rattle.run_outcomes.proofs.replay.replayed.Goals as goal
 
 pub redo-requires-clause-legal : goal.redo-requires-clause-legal
 redo-requires-clause-legal c =

@@ -1,36 +1,21 @@
-//! The run of a permutation, and its state behind the entries, before any teardown.
+//! A history done again, up to any of its items.
 
 ghost use Rattle.std.specs.Prelude.{◌≡◌, ◌+◌, ◌<◌, [], IfOk, OnOk, length, map, take};
 ghost use Rattle.sql_blocks.specs.Blocks.{blocks_of};
 ghost use Rattle.session_machine.specs.declared.event.Mode.TheVariants.{Directed};
 ghost use Rattle.session_machine.specs.Engine.{IsLegal};
 ghost use Rattle.session_core.specs.Engines.{IsOf};
-ghost use Rattle.spec_parser.specs.Trees.{entry_view, spec_view};
+ghost use Rattle.spec_parser.specs.Trees.{spec_view};
 ghost use Rattle.spec_parser.specs.Stands.{Stands};
-ghost use Rattle.permutation_plans.specs.Regular.{IsRegular};
 
 use permutations::RunFault;
-use plain_runs::run_alone;
 use row_versions::ListStore;
 use session_core::EngineState;
 use session_machine::{EngineFault, HistItem, Mode};
 use session_threads::ThreadFault;
-use spec_parser::{Entry, Spec};
+use spec_parser::Spec;
 use sql_blocks::Block;
 use std::alloc::Global;
-
-/// The history of a permutation, as the engine that has it.
-pub fn play<'a, 't>(
-    alloc: Global,
-    spec: &Spec<'_>,
-    blocks: &'a [Block<'t>],
-    entries: &[Entry],
-) -> Result<EngineState<'a, 't, ListStore>, RunFault>
-    requires { Stands (spec_view spec.now) }
-    ensures regular { IfOk result (λ e. IsRegular (spec_view spec.now) (blocks_of blocks.now) (map entry_view entries.now) e.history) }
-{
-    run_alone(alloc, spec, blocks, entries)
-}
 
 /// Does the event of the item at this place again.
 fn redo_one<'a, 't>(
@@ -82,7 +67,6 @@ pub fn replayed<'a, 't>(
     let store = ListStore::new(alloc);
     let mut engine = EngineState::new(alloc, blocks, sessions, Mode::Directed, store)?;
     if let Err(fault) = redo(&mut engine, items) {
-        engine.end();
         return Err(ThreadFault::Engine(fault).into());
     }
     Ok(engine)
