@@ -2,11 +2,23 @@
 //! those that no serial order of the transactions has.
 #![tactic(auto)]
 
+mod cells;
+mod file;
+mod heading;
+mod html;
+mod interleaving;
+mod markup;
+mod names;
+mod plain;
 mod progress;
+mod telling;
+mod text;
+mod texts;
+mod told;
 mod words;
 
+use file::{Answer, answer_of};
 use iso_lexer::{FromStd, LONGEST_FILE, read_all};
-use outcome_text::{Answer, answer_of};
 use permutations::RunFault;
 use progress::Progress;
 use std::env;

@@ -1,6 +1,6 @@
 //! How far the run has come, on a terminal.
 
-use outcome_text::Watch;
+use run_outcomes::Watch;
 use std::rt::Runtime;
 use std::time::Instant;
 
