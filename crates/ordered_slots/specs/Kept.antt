@@ -1,13 +1,19 @@
 -- What slots hold: pairs of a slot and its value, in the order in which the values were added.
-use Rattle.std.specs.Prelude.{◌≡◌, ◌==◌, ℕ, Bool, false, List, [], ◌∷◌, Option, map}
+use Rattle.std.specs.Prelude.{◌≡◌, ◌==◌, ℕ, suc, Bool, false, List, [], ◌∷◌, Option, Some, None, map}
 use Rattle.std.specs.List.{list_any}
 use Rattle.std.specs.Map.{lookup, remove_entry, set_value}
 use Rattle.ordered_slots.specs.declared.slots.OrderedSlots.{OrderedSlots}
 
 module _ {T : Type 0} where
+  -- of slots in a row, the first of which has this number, those that have a value, each with its value
+  abbrev pub filled : ℕ → List (Option T) → List (ℕ × T)
+  filled slot [] = []
+  filled slot (None ∷ rest) = filled (suc slot) rest
+  filled slot (Some value ∷ rest) = (slot, value) ∷ filled (suc slot) rest
+
   -- the slots that have a value, each with its value, those first that were added first
   abbrev pub kept : OrderedSlots T → List (ℕ × T)
-  kept slots = slots.map.entries
+  kept slots = filled slots.first slots.slots.items
 
   -- the values, those first that were added first
   abbrev pub values : List (ℕ × T) → List T

@@ -2,5 +2,7 @@
 #![tactic(auto)]
 
 mod slots;
+mod values;
 
 pub use slots::OrderedSlots;
+pub use values::Values;

@@ -1,18 +1,19 @@
 //! Values in slots.
-ghost use Rattle.std.specs.Prelude.{◌≡◌, ◌<◌, [], ◌∷◌, ◌++◌, IfOk, OnOk, OnErr, option_copied};
-ghost use Rattle.std.specs.List.{All};
-ghost use Rattle.std.specs.BTreeMap.{keys};
-ghost use Rattle.std.specs.Map.Iter.{ShowsInOrder, deref};
+ghost use Rattle.std.specs.Prelude.{◌≡◌, [], ◌∷◌, ◌++◌, IfOk, OnOk, OnErr, option_copied};
 ghost use Rattle.ordered_slots.specs.Kept.{has_no_slot_twice, kept, value_in, values, with_value, without_slot};
 
+use crate::values::Values;
 use std::alloc::{AllocError, Global};
-use std::collections::BTreeMap;
-use std::collections::btree_map::Values;
+use std::collections::VecDeque;
 
-/// Values, each in a slot of its own, in the order in which they were added. A slot is a number, and is given again once its value and all that were added later are taken out.
+/// Values, each in a slot of its own, in the order in which they were added. A slot is a number, and no value that was
+/// added later has a smaller one. An empty slot takes room only while values stand before it and behind it.
 #[derive(Drop)]
 pub struct OrderedSlots<T> {
-    map: BTreeMap<usize, T>,
+    /// The number of the first of the slots.
+    first: usize,
+    /// Each slot from there on, with its value or empty.
+    slots: VecDeque<Option<T>>,
 }
 
 impl<T> OrderedSlots<T> {
@@ -21,7 +22,8 @@ impl<T> OrderedSlots<T> {
         ensures { kept result ≡ [] }
     {
         OrderedSlots {
-            map: BTreeMap::new(alloc),
+            first: 0,
+            slots: VecDeque::new(alloc),
         }
     }
 
@@ -33,8 +35,8 @@ impl<T> OrderedSlots<T> {
         ensures err { OnErr result (kept self.new ≡ kept self.old) }
         ensures apart { OnOk result (has_no_slot_twice (kept self.new)) }
     {
-        let slot = next_slot(&self.map)?;
-        self.map.insert(slot, value)?;
+        let slot = self.first.checked_add(self.slots.len()).ok_or(AllocError)?;
+        self.slots.push_back(Some(value))?;
         Ok(slot)
     }
 
@@ -42,7 +44,8 @@ impl<T> OrderedSlots<T> {
     pub fn get(&self, slot: usize) -> Option<&T>
         ensures { option_copied result ≡ value_in (kept self.now) slot }
     {
-        self.map.get(&slot)
+        let place = slot.checked_sub(self.first)?;
+        self.slots.get(place)?.as_ref()
     }
 
     /// Puts another value into the slot, if it has one. It takes no memory.
@@ -51,35 +54,53 @@ impl<T> OrderedSlots<T> {
         T: Drop,
         ensures { kept self.new ≡ with_value slot value (kept self.old) }
     {
-        if let Some(old) = self.map.get_mut(&slot) {
-            *old = value;
+        if let Some(place) = slot.checked_sub(self.first) {
+            if let Some(held) = self.slots.get_mut(place) {
+                if held.is_some() {
+                    *held = Some(value);
+                }
+            }
         }
     }
 
     /// The values, in the order in which they were added.
-    pub fn values(&self) -> Values<'_, usize, T>
-        ensures rest { result ≡ values (kept self.now) }
-        ensures runs { ShowsInOrder (deref {X = T}) }
+    pub fn values(&self) -> Values<'_, T>
+        ensures { result ≡ values (kept self.now) }
     {
-        self.map.values()
+        Values {
+            slots: self.slots.iter(),
+        }
     }
 
     /// Takes the value out of the slot. It takes no memory.
     pub fn remove(&mut self, slot: usize) -> Option<T>
+    where
+        T: Drop,
         ensures value { result ≡ value_in (kept self.old) slot }
         ensures rest { kept self.new ≡ without_slot slot (kept self.old) }
         ensures apart { has_no_slot_twice (kept self.new) }
     {
-        self.map.remove(&slot)
+        let place = slot.checked_sub(self.first)?;
+        let value = self.slots.get_mut(place)?.take();
+        self.trim();
+        value
     }
-}
 
-/// The slot behind all that have a value: there is one unless the last has the greatest number.
-fn next_slot<T>(map: &BTreeMap<usize, T>) -> Result<usize, AllocError>
-    ensures { IfOk result (λ slot. All (λ other. other < slot) (keys map.now)) }
-{
-    match map.last_key_value() {
-        Some((last, _)) => last.checked_add(1).ok_or(AllocError),
-        None => Ok(0),
+    /// Lets go of the empty slots before the first value and behind the last.
+    fn trim(&mut self)
+    where
+        T: Drop,
+        ensures { kept self.new ≡ kept self.old }
+    {
+        while let Some(None) = self.slots.back() {
+            self.slots.pop_back();
+        }
+        while let Some(None) = self.slots.front() {
+            let Some(second) = self.first.checked_add(1) else {
+                return;
+            };
+            self.slots.pop_front();
+            self.first = second;
+        }
     }
 }

@@ -21,6 +21,9 @@ use sql_values::Row;
 use std::alloc::{AllocError, Global};
 use std::marker::Model;
 
+/// For how many events the history has room from the beginning: most permutations have no more.
+const ROOM: usize = 32;
+
 /// Sessions over a store, in a run that is recorded. Contracts see it as what it was opened over, the machine's
 /// state and the history; the state is that to which the history leads from the opening.
 pub struct EngineState<'a, 't, V: Versions> {
@@ -125,6 +128,7 @@ impl<'a, 't, V: Versions> EngineState<'a, 't, V> {
         let live = Live::new(alloc, count, store)?;
         let kept = Kept::none(alloc, count)?;
         let blockers = AllBlockers::none(alloc, count)?;
+        let history = Vec::with_capacity(alloc, ROOM)?;
         Ok(EngineState {
             blocks,
             count,
@@ -132,7 +136,7 @@ impl<'a, 't, V: Versions> EngineState<'a, 't, V> {
             live,
             kept,
             blockers,
-            history: Vec::new(alloc),
+            history,
             spent: false,
         })
     }

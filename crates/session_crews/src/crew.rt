@@ -57,11 +57,12 @@ fn admitted_event<E: Engine, O: Orderings, D: Drives<E>, G: Gate, R: Wait>(
     None
 }
 
-/// Does one event under the lock of its run, and asks the driver for what comes next. Says whether it was done, and who looks
-/// at the run then.
-fn one_event<E: Engine, S: SeatAt<E>, O: Orderings, D: Drives<E>, R: Wait>(
+/// Does an event under the lock of its run, at an open gate also all that is the session's to do behind it, and asks the driver
+/// for what comes next. Says whether it was done, and who looks at the run then.
+fn events_from<E: Engine, S: SeatAt<E>, O: Orderings, D: Drives<E>, G: Gate, R: Wait>(
     rt: &R,
     run: &Mutex<Shared<E, O, D>>,
+    gate: &G,
     seat: &mut S,
     event: Event,
 ) -> (bool, Hand) {
@@ -69,6 +70,15 @@ fn one_event<E: Engine, S: SeatAt<E>, O: Orderings, D: Drives<E>, R: Wait>(
     let mut shared = run.lock(rt);
     let done = own && shared.perform(seat, event);
     shared.ask();
+    if gate.is_open() {
+        for _ in rt.forever() {
+            let Some(event) = shared.due(seat.session()) else {
+                break;
+            };
+            shared.perform(seat, event);
+            shared.ask();
+        }
+    }
     (done, shared.hand())
 }
 
@@ -93,10 +103,11 @@ fn ask_for_each<E: Engine, O: Orderings, D: Drives<E>, G: Gate, R: Wait>(
 }
 
 /// Does these events, each in its run. Those that were not done are taken back. Hands each run to who looks at it next.
-fn do_each<E: Engine, S: SeatAt<E>, O: Orderings, D: Drives<E>, R: Wait>(
+fn do_each<E: Engine, S: SeatAt<E>, O: Orderings, D: Drives<E>, G: Gate, R: Wait>(
     rt: &R,
     runs: &[Mutex<Shared<E, O, D>>],
     board: &Board,
+    gate: &G,
     seats: &mut [S],
     events: &mut [Option<Event>],
     hands: &mut [u64],
@@ -111,7 +122,7 @@ fn do_each<E: Engine, S: SeatAt<E>, O: Orderings, D: Drives<E>, R: Wait>(
         let Some(event) = *slot else {
             continue;
         };
-        let (done, hand) = one_event(rt, run, seat, event);
+        let (done, hand) = events_from(rt, run, gate, seat, event);
         if !done {
             *slot = None;
         }
@@ -140,8 +151,8 @@ fn tell_of_each<E: Engine, S: SeatAt<E>, G: Gate>(gate: &G, seats: &[S], events:
     }
 }
 
-/// Does one event of the session in each of these runs, hands them on, and then tells the gate. Says in which of them it is
-/// the session's turn again.
+/// Does one event of the session in each of these runs, at an open gate all that are its to do, hands them on, and then tells
+/// the gate. Says in which of them it is the session's turn again.
 fn pass<E: Engine, S: SeatAt<E>, O: Orderings, D: Drives<E>, G: Gate, R: Wait>(
     rt: &R,
     runs: &[Mutex<Shared<E, O, D>>],
@@ -154,8 +165,8 @@ fn pass<E: Engine, S: SeatAt<E>, O: Orderings, D: Drives<E>, G: Gate, R: Wait>(
     let mut events = [None; MOST_RUNS];
     let mut hands = [0u64; MOST_SESSIONS + 1];
     ask_for_each(rt, runs, board, gate, session, looks, &mut events);
-    do_each(rt, runs, board, seats, &mut events, &mut hands);
-    board.hand_on(session, &hands);
+    do_each(rt, runs, board, gate, seats, &mut events, &mut hands);
+    board.hand_on(session, &hands, gate.is_open());
     tell_of_each::<E, S, G>(gate, seats, &events);
     match hands.get(session as usize) {
         Some(own) => *own,

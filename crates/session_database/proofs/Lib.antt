@@ -1,1 +1,2 @@
 pub mod Erring
+pub mod Waiting

@@ -11,6 +11,9 @@ use crate::seat::Seat;
 use session_machine::{Answers, Engine, Event, HistItem};
 use std::alloc::Global;
 
+/// For how many events a seat makes room at its first one: most sessions of a permutation have no more.
+const ROOM: usize = 8;
+
 /// What a session's thread does with its seat and the engine at which it has it.
 pub trait SeatAt<E: Engine>: Drop {
     /// The session's number, and its events with their replies, in order.
@@ -49,7 +52,8 @@ impl<'t, E: Answers<'t>> SeatAt<E> for Seat<'t> {
     }
 
     fn act(&mut self, engine: &mut E, event: Event) -> Result<(), ThreadFault> {
-        if self.items.try_reserve(1).is_err() {
+        let room = if self.items.is_empty() { ROOM } else { 1 };
+        if self.items.try_reserve(room).is_err() {
             return Err(ThreadFault::Memory);
         }
         match engine.ask(event) {

@@ -128,3 +128,24 @@ impl Gate for Shut {
 
     fn answered(&self, _event: Event, _reply: &Reply<'_>) {}
 }
+
+/// Says that it is open, and counts how often it is asked or told all the same; whoever asks it isn't admitted.
+#[derive(Drop)]
+pub struct Open {
+    pub heard: AtomicU64,
+}
+
+impl Gate for Open {
+    fn is_open(&self) -> bool {
+        true
+    }
+
+    fn admits(&self, _event: Event) -> bool {
+        self.heard.fetch_add(1, Ordering::SeqCst);
+        false
+    }
+
+    fn answered(&self, _event: Event, _reply: &Reply<'_>) {
+        self.heard.fetch_add(1, Ordering::SeqCst);
+    }
+}

@@ -1,7 +1,7 @@
 //! Which fault a run of a file ends in, and what it has written by then.
 
 use crate::asking::{ROOM, answer_but_wants, holds};
-use crate::gates::Shut;
+use crate::gates::{Open, Shut};
 use iso_lexer::FromStd;
 use permutations::{RunFault, free_spec, run_spec};
 use session_machine::{Event, Reply};
@@ -108,5 +108,32 @@ fn what_ran_before_a_fault_is_told(rt: HostRuntime) -> Result<(), Fail> {
     let ended = run(&rt, rt.alloc(), SECOND_SHUT_OUT, &NoSecond)?;
     let text = "Parsed test spec with 2 sessions\n\nstarting permutation: a\nstep a: \n";
     ends_at_the_gate(&rt, &ended, text);
+    Ok(())
+}
+
+/// Two sessions of which each starts steps in turn, so that the run goes from thread to thread.
+const TWO_IN_TURN: &str = "session s step a { } session t step b { }
+permutation a b a b a";
+
+#[test]
+fn an_open_gate_is_neither_asked_nor_told(rt: HostRuntime) -> Result<(), Fail> {
+    let gate = Open {
+        heard: AtomicU64::new(0),
+    };
+    let directed = run(&rt, rt.alloc(), TWO_IN_TURN, &gate)?;
+    holds(&rt, directed.answer.is_ok(), "the run ends");
+    let text = "Parsed test spec with 2 sessions
+
+starting permutation: a b a b a
+step a: 
+step b: 
+step a: 
+step b: 
+step a: 
+";
+    holds(&rt, directed.text.as_slice() == text.as_bytes(), text);
+    let free = run_freely(&rt, rt.alloc(), TWO_IN_TURN, &gate)?;
+    holds(&rt, free.answer.is_ok(), "the free run ends");
+    holds(&rt, gate.heard.load(Ordering::SeqCst) == 0, "heard nothing");
     Ok(())
 }
