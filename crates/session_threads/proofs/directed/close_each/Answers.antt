@@ -63,3 +63,6 @@ loop-over-preserved g c =
       may = all_rest left rest over (λ over. IfSome over.run.met (MayMeet (g.O.Orderings.orders over.place) over.run.engine.state)) before.may first;
       ran = ran_on (blocks_of c.args.blocks.now) c.args.sessions g.O.Orderings.orders so_far now one before.ran (subst (λ n. CameBy (blocks_of c.args.blocks.now) c.args.sessions (g.O.Orderings.orders n) one) at (record { ran = c.close_one-run.ensures.ran; stopped = c.close_one-run.ensures.stopped })) pushed;
     }
+
+pub unwrap-requires : goal.unwrap-requires
+unwrap-requires g c = c.push.ensures.succeeds (search (rules, arith))
