@@ -166,7 +166,7 @@ fn pass<E: Engine, S: SeatAt<E>, O: Orderings, D: Drives<E>, G: Gate, R: Wait>(
     let mut hands = [0u64; MOST_SESSIONS + 1];
     ask_for_each(rt, runs, board, gate, session, looks, &mut events);
     do_each(rt, runs, board, gate, seats, &mut events, &mut hands);
-    board.hand_on(session, &hands, gate.is_open());
+    board.hand_on(session, &hands);
     tell_of_each::<E, S, G>(gate, seats, &events);
     match hands.get(session as usize) {
         Some(own) => *own,

@@ -131,34 +131,14 @@ impl Board {
     }
 
     /// Puts what was handed to each session on its desk: the first is the control session's. Of the own session's thread
-    /// nobody has to wake. Wakes each thread that has something to do, or one alone, which then wakes the next.
-    pub fn hand_on(&self, own: u32, hands: &[u64], wakes_one: bool) {
+    /// nobody has to wake.
+    pub fn hand_on(&self, own: u32, hands: &[u64]) {
         let mut session = 0;
-        for (desk, runs) in self.desks.iter().zip(hands) {
-            if *runs != 0
-                && session != own
-                && desk.runs.fetch_or(*runs, Ordering::SeqCst) == 0
-                && !wakes_one
-            {
-                desk.sleeper.unpark();
+        for runs in hands {
+            if *runs != 0 && session != own {
+                self.put(session, *runs);
             }
             session = session.wrapping_add(1);
-        }
-        if wakes_one {
-            self.wake_next(own);
-        }
-    }
-
-    /// Wakes the thread of the first session behind this one, behind the last comes the control session, on whose desk
-    /// something lies.
-    fn wake_next(&self, own: u32) {
-        let behind = (own as usize).saturating_add(1);
-        let before = self.desks.iter().take(behind);
-        for desk in self.desks.iter().skip(behind).chain(before) {
-            if desk.runs.load(Ordering::SeqCst) != 0 {
-                desk.sleeper.unpark();
-                return;
-            }
         }
     }
 
