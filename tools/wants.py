@@ -14,7 +14,7 @@ HEAD = """# Lines of code that tell want of memory by themselves, or hand anothe
 # with the text.
 """
 # Crates of tests, and programs around the library, tell what they like.
-LEFT_OUT = re.compile(r"_tests$|^(test_devices|examples|timings|timeline|outcomes|isolationtester)$")
+LEFT_OUT = re.compile(r"_tests$|^(test_devices|examples|timings|timeline|isolationtester)$")
 # A value, and no type: behind one of these, and not in front of a pattern's arrow.
 MADE = re.compile(r"(?:^|[(|=>{;]\s*|\breturn )(?:\w+::)*(?:AllocError|(?<=::)Memory)\b(?!\)*\s*(?:=>|\||if ))")
 SKIPPED = re.compile(r"^(use |pub use |ghost |ensures |requires |//|#|impl |where )")

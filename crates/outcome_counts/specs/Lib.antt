@@ -4,3 +4,4 @@ pub mod Counts
 pub mod Serial
 pub mod Code
 pub mod Inner
+pub mod Endings

@@ -3,6 +3,7 @@
 #![tactic(auto)]
 
 mod failures;
+mod judged;
 mod mixed;
 mod numbers;
 mod orders;
@@ -12,6 +13,7 @@ mod transactions;
 mod verdict;
 
 pub use failures::{failed_of, rest_of, sessions_of};
+pub use judged::{Judged, Outcomes};
 pub use mixed::mixed_step;
 pub use numbers::step_number;
 pub use orders::{counts_of, entries_in_order};

@@ -1,0 +1,4 @@
+pub mod Fates
+pub mod Redoing
+pub mod Serially
+pub mod Verdicts

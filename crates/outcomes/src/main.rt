@@ -2,30 +2,21 @@
 //! those that no serial order of the transactions has.
 #![tactic(auto)]
 
-mod cells;
+mod counting;
 mod file;
-mod heading;
-mod html;
-mod interleaving;
-mod markup;
-mod names;
-mod plain;
-mod progress;
-mod telling;
-mod text;
-mod texts;
-mod told;
-mod words;
+mod outcome;
+mod replay;
+mod serial;
+mod verdict;
 
-use file::{Answer, answer_of};
+use file::answer_of;
 use iso_lexer::{FromStd, LONGEST_FILE, read_all};
-use permutations::RunFault;
-use progress::Progress;
+use outcome_words::{Answer, Progress, Request, USAGE, request_of};
+use spec_files::RunFault;
 use std::env;
 use std::io::{self, ErrorKind, IsTerminal};
 use std::process::ExitCode;
 use std::rt::Runtime;
-use words::{Request, USAGE, request_of};
 
 /// The status where the words of the command line are refused.
 const WORDS_REFUSED: u8 = 2;

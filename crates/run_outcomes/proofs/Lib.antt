@@ -1,4 +1,0 @@
-pub mod Fates
-pub mod Redoing
-pub mod Serially
-pub mod Verdicts

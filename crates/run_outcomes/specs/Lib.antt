@@ -1,4 +1,0 @@
-pub mod Endings
-pub mod Tables
-pub mod Counting
-pub mod Judging
