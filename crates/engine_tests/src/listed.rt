@@ -2,7 +2,7 @@
 
 use crate::trial::{at_last, holds};
 use row_versions::ListStore;
-use session_core::{EngineFault, EngineState, Event, Mode, Outcome, Turn};
+use session_core::{EngineFault, EngineState, Event, Mode, Outcome, StmtFault, Turn};
 use sql_parser::{Block, Role, parse_block};
 use std::alloc::{AllocError, Global};
 use std::process::Abort;
@@ -15,12 +15,22 @@ type Parts = [&'static str; 4];
 /// How many there are for each part of the list, and how many more.
 type Count = (usize, usize);
 
-/// Sessions run blocks, one after the other; the last reply has so many rows and columns, or none. No more than so many parts are listed.
+/// What the last statement answers.
+#[derive(Clone, Copy)]
+enum Answer {
+    /// So many rows, and so many columns.
+    Rows(Count, Count),
+    Done,
+    /// That a key is taken, in whose name so many underscores stand.
+    Taken(Count),
+}
+
+/// Sessions run blocks, one after the other, and this is the last reply. No more than so many parts are listed.
 #[derive(Clone, Copy)]
 struct Case {
     of: &'static str,
     lines: &'static [(u32, Parts)],
-    answer: Option<(Count, Count)>,
+    answer: Answer,
     most: usize,
 }
 
@@ -103,53 +113,58 @@ const SORT_KEYS: (u32, Parts) = (1, ["SELECT x FROM t ORDER BY x", ", x + ", "",
 
 const MEMBERS: (u32, Parts) = (1, ["SELECT x FROM t WHERE x NOT IN (-1", ", -", "", ")"]);
 
-const CASES: [Case; 20] = [
+/// The table's name is as long as that, and so is the name of its key.
+const NAMED: (u32, Parts) = (0, ["CREATE TABLE t", "_", "", " (x int PRIMARY KEY)"]);
+
+const SEVEN_INTO_NAMED: (u32, Parts) = (1, ["INSERT INTO t", "_", "", " VALUES (7)"]);
+
+const CASES: [Case; 21] = [
     Case {
         of: "columns that are read",
         lines: &[WIDE, ONE_ROW, SORTED],
-        answer: Some((ONE, EACH_AND_ONE)),
+        answer: Answer::Rows(ONE, EACH_AND_ONE),
         most: 1_001,
     },
     Case {
         of: "columns of no row",
         lines: &[WIDE, SORTED],
-        answer: Some((NONE, EACH_AND_ONE)),
+        answer: Answer::Rows(NONE, EACH_AND_ONE),
         most: 1_001,
     },
     Case {
         of: "columns that are changed",
         lines: &[WIDE, ONE_ROW, SET],
-        answer: Some((ONE, EACH_AND_ONE)),
+        answer: Answer::Rows(ONE, EACH_AND_ONE),
         most: 1_001,
     },
     Case {
         of: "aggregates",
         lines: &[WIDE, ONE_ROW, SUMMED],
-        answer: Some((ONE, EACH_AND_ONE)),
+        answer: Answer::Rows(ONE, EACH_AND_ONE),
         most: 1_001,
     },
     Case {
         of: "aggregates of no row",
         lines: &[WIDE, SUMMED],
-        answer: Some((ONE, EACH_AND_ONE)),
+        answer: Answer::Rows(ONE, EACH_AND_ONE),
         most: 1_001,
     },
     Case {
         of: "keys",
         lines: &[UNIQUE, ONE_ROW, SET],
-        answer: Some((ONE, EACH_AND_ONE)),
+        answer: Answer::Rows(ONE, EACH_AND_ONE),
         most: 101,
     },
     Case {
         of: "rows of VALUES",
         lines: &[TABLE, ROWS],
-        answer: Some((EACH_AND_ONE, ONE)),
+        answer: Answer::Rows(EACH_AND_ONE, ONE),
         most: 1_001,
     },
     Case {
         of: "rows none of which passes",
         lines: &[TABLE, ROWS, NONE_PASSES],
-        answer: Some((NONE, ONE)),
+        answer: Answer::Rows(NONE, ONE),
         most: 1_001,
     },
     Case {
@@ -159,19 +174,19 @@ const CASES: [Case; 20] = [
             ROWS,
             (1, ["SELECT x FROM t ORDER BY x FOR UPDATE", "", "", ""]),
         ],
-        answer: Some((EACH_AND_ONE, ONE)),
+        answer: Answer::Rows(EACH_AND_ONE, ONE),
         most: 1_001,
     },
     Case {
         of: "rows that are deleted",
         lines: &[TABLE, ROWS, (1, ["DELETE FROM t RETURNING x", "", "", ""])],
-        answer: Some((EACH_AND_ONE, ONE)),
+        answer: Answer::Rows(EACH_AND_ONE, ONE),
         most: 1_001,
     },
     Case {
         of: "rows before a wait",
         lines: &[TABLE, LAST_ROW, HOLDS_LAST, CHANGES_ALL, COMMITS],
-        answer: Some((EACH_AND_TWO, ONE)),
+        answer: Answer::Rows(EACH_AND_TWO, ONE),
         most: 1_001,
     },
     Case {
@@ -190,7 +205,7 @@ const CASES: [Case; 20] = [
             ),
             (2, ["ROLLBACK", "", "", ""]),
         ],
-        answer: Some((EACH_AND_TWO, ONE)),
+        answer: Answer::Rows(EACH_AND_TWO, ONE),
         most: 1_001,
     },
     Case {
@@ -201,7 +216,7 @@ const CASES: [Case; 20] = [
             (2, ["BEGIN; UPDATE t SET x = x + 1", "", "", ""]),
             SKIPS,
         ],
-        answer: Some((NONE, ONE)),
+        answer: Answer::Rows(NONE, ONE),
         most: 1_001,
     },
     Case {
@@ -218,31 +233,31 @@ const CASES: [Case; 20] = [
             ),
             (0, ["DROP TABLE t", ", t", "", ""]),
         ],
-        answer: None,
+        answer: Answer::Done,
         most: 101,
     },
     Case {
         of: "items of a select list",
         lines: &[TABLE, SEVEN, ITEMS],
-        answer: Some((ONE, EACH_AND_ONE)),
+        answer: Answer::Rows(ONE, EACH_AND_ONE),
         most: 1_001,
     },
     Case {
         of: "items of RETURNING",
         lines: &[TABLE, RETURNED],
-        answer: Some((ONE, EACH_AND_ONE)),
+        answer: Answer::Rows(ONE, EACH_AND_ONE),
         most: 1_001,
     },
     Case {
         of: "keys to sort by",
         lines: &[TABLE, SEVEN, SORT_KEYS],
-        answer: Some((ONE, ONE)),
+        answer: Answer::Rows(ONE, ONE),
         most: 1_001,
     },
     Case {
         of: "members of a list",
         lines: &[TABLE, SEVEN, MEMBERS],
-        answer: Some((ONE, ONE)),
+        answer: Answer::Rows(ONE, ONE),
         most: 1_001,
     },
     Case {
@@ -252,13 +267,19 @@ const CASES: [Case; 20] = [
             LETTERS,
             ADDS_A_LETTER,
         ],
-        answer: Some((ONE, ONE)),
+        answer: Answer::Rows(ONE, ONE),
+        most: 5_001,
+    },
+    Case {
+        of: "letters of a key's name",
+        lines: &[NAMED, SEVEN_INTO_NAMED, SEVEN_INTO_NAMED],
+        answer: Answer::Taken(EACH_AND_ONE),
         most: 5_001,
     },
     Case {
         of: "names of no table",
         lines: &[(0, ["DROP TABLE IF EXISTS t", ", t", "", ""])],
-        answer: None,
+        answer: Answer::Done,
         most: 1_001,
     },
 ];
@@ -342,18 +363,31 @@ fn is_count(found: usize, count: Count, size: usize) -> bool {
     found == count.0.saturating_mul(size).saturating_add(count.1)
 }
 
-/// Whether the outcome has as many rows and columns as the case says.
+fn underscores(name: &[u8]) -> usize {
+    let mut count = 0usize;
+    for byte in name {
+        if *byte == b'_' {
+            count = count.wrapping_add(1);
+        }
+    }
+    count
+}
+
+/// Whether the outcome is what the case says.
 fn is_wanted(outcome: &Outcome<'_>, case: &Case, size: usize) -> bool {
     match (outcome, case.answer) {
-        (Outcome::Rows(set), Some((rows, columns))) => {
+        (Outcome::Rows(set), Answer::Rows(rows, columns)) => {
             is_count(set.rows().len(), rows, size) && is_count(set.titles().len(), columns, size)
         }
-        (Outcome::Done, None) => true,
+        (Outcome::Done, Answer::Done) => true,
+        (Outcome::Failed(StmtFault::KeyTaken(name)), Answer::Taken(count)) => {
+            is_count(underscores(name.text()), count, size)
+        }
         _ => false,
     }
 }
 
-/// Whether an engine over these blocks answers what the case says.
+/// Whether an engine over these blocks answers what the case says, also in a copy of its history's last item.
 fn is_answered_by(
     alloc: Global,
     blocks: &[Block<'_>],
@@ -366,10 +400,11 @@ fn is_answered_by(
     if run(&mut engine, texts).is_err() {
         return Err(AllocError);
     }
-    Ok(match engine.history().last() {
-        Some(item) => is_wanted(&item.reply.outcome, case, size),
-        None => false,
-    })
+    let Some(item) = engine.history().last() else {
+        return Ok(false);
+    };
+    let again = item.copied(alloc)?;
+    Ok(is_wanted(&again.reply.outcome, case, size))
 }
 
 fn is_answered(alloc: Global, case: &Case, size: usize) -> Result<bool, AllocError> {

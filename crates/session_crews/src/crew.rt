@@ -1,15 +1,12 @@
 //! What a session's thread does in the runs of a crew.
 ghost use Rattle.std.specs.Prelude.{◌≡◌, true};
-ghost use Rattle.session_machine.specs.Machine.{session_of};
 ghost use Rattle.session_crews.specs.Inner.Shared.{is_outside};
 
 use crate::driven::Drives;
 use crate::shared::{Hand, Shared};
 use iso_lexer::MOST_SESSIONS;
-use session_machine::{Engine, EngineFault, Event};
-use session_seats::{
-    Board, Gate, MOST_RUNS, Orderings, SeatAt, ThreadFault, admitted, bit_of, number_of, tell,
-};
+use session_machine::{Engine, EngineFault};
+use session_seats::{Board, Gate, Orderings, SeatAt, ThreadFault, admitted, bit_of, tell};
 use std::sync::{Mutex, Wait};
 
 /// What a session's thread has: the session's seat in each run.
@@ -36,102 +33,101 @@ pub fn give_up<E: Engine, O: Orderings, D: Drives<E>, R: Wait>(
     board.end(place);
 }
 
-/// What the session is to do in a run, where the gate admits it. A run that is not the session's to go on with ends.
-fn admitted_event<E: Engine, O: Orderings, D: Drives<E>, G: Gate, R: Wait>(
+/// Whether the gate admits what the session is to do in a run; it is asked for nothing where there is nothing to do.
+fn is_admitted<E: Engine, O: Orderings, D: Drives<E>, G: Gate, R: Wait>(
     rt: &R,
     run: &Mutex<Shared<E, O, D>>,
-    board: &Board,
     gate: &G,
-    place: usize,
     session: u32,
-) -> Option<Event> {
+) -> bool {
     let due = run.lock(rt).due(session);
     match due {
-        Some(event) if admitted(gate, event) => return due,
-        Some(_) => give_up(rt, run, board, place, ThreadFault::Gate),
-        None => {
-            let fault = ThreadFault::Engine(EngineFault::NotYourTurn);
-            give_up(rt, run, board, place, fault);
-        }
+        Some(event) => admitted(gate, event),
+        None => true,
     }
-    None
 }
 
-/// Does an event under the lock of its run, at an open gate also all that is the session's to do behind it, and asks the driver
-/// for what comes next. Says whether it was done, and who looks at the run then.
-fn events_from<E: Engine, S: SeatAt<E>, O: Orderings, D: Drives<E>, G: Gate, R: Wait>(
-    rt: &R,
-    run: &Mutex<Shared<E, O, D>>,
-    gate: &G,
-    seat: &mut S,
-    event: Event,
-) -> (bool, Hand) {
-    let own = number_of(event) == seat.session();
-    let mut shared = run.lock(rt);
-    let done = own && shared.perform(seat, event);
-    shared.ask();
-    if gate.is_open() {
-        for _ in rt.forever() {
-            let Some(event) = shared.due(seat.session()) else {
-                break;
-            };
-            shared.perform(seat, event);
-            shared.ask();
-        }
-    }
-    (done, shared.hand())
-}
-
-/// Asks the gate for what the session is to do in these runs.
-fn ask_for_each<E: Engine, O: Orderings, D: Drives<E>, G: Gate, R: Wait>(
+/// In which of these runs the gate admits what the session is to do. The others end.
+fn admitted_runs<E: Engine, O: Orderings, D: Drives<E>, G: Gate, R: Wait>(
     rt: &R,
     runs: &[Mutex<Shared<E, O, D>>],
     board: &Board,
     gate: &G,
     session: u32,
     looks: u64,
-    events: &mut [Option<Event>],
-) {
+) -> u64 {
+    let mut found = 0;
     for place in 0..runs.len() {
         if looks & bit_of(place) == 0 {
             continue;
         }
-        if let (Some(run), Some(event)) = (runs.get(place), events.get_mut(place)) {
-            *event = admitted_event(rt, run, board, gate, place, session);
+        if let Some(run) = runs.get(place) {
+            if is_admitted(rt, run, gate, session) {
+                found |= bit_of(place);
+            } else {
+                give_up(rt, run, board, place, ThreadFault::Gate);
+            }
         }
     }
+    found
 }
 
-/// Does these events, each in its run. Those that were not done are taken back. Hands each run to who looks at it next.
-fn do_each<E: Engine, S: SeatAt<E>, O: Orderings, D: Drives<E>, G: Gate, R: Wait>(
+/// Does under the lock of a run what the session is to do there: one event, at an open gate all that is its to do, each time
+/// asking the driver for what comes next. A run that is not the session's to go on with ends. Says whether the event that came
+/// last was done, and who looks at the run then.
+fn events_in<E: Engine, S: SeatAt<E>, O: Orderings, D: Drives<E>, R: Wait>(
+    rt: &R,
+    run: &Mutex<Shared<E, O, D>>,
+    is_open: bool,
+    seat: &mut S,
+) -> (bool, Hand) {
+    let mut shared = run.lock(rt);
+    let mut done = false;
+    for _ in rt.forever() {
+        let Some(event) = shared.due(seat.session()) else {
+            break;
+        };
+        done = shared.perform(seat, event);
+        shared.ask();
+        if !is_open {
+            break;
+        }
+    }
+    if !done && !shared.over() {
+        shared.note(ThreadFault::Engine(EngineFault::NotYourTurn));
+    }
+    (done, shared.hand())
+}
+
+/// Does what the session is to do in each of these runs, and notes who looks at each next. Says in which something was done.
+fn do_each<E: Engine, S: SeatAt<E>, O: Orderings, D: Drives<E>, R: Wait>(
     rt: &R,
     runs: &[Mutex<Shared<E, O, D>>],
     board: &Board,
-    gate: &G,
+    is_open: bool,
     seats: &mut [S],
-    events: &mut [Option<Event>],
+    looks: u64,
     hands: &mut [u64],
-) {
+) -> u64 {
+    let mut done = 0;
     for place in 0..runs.len() {
-        let (Some(run), Some(seat)) = (runs.get(place), seats.get_mut(place)) else {
-            return;
-        };
-        let Some(slot) = events.get_mut(place) else {
-            return;
-        };
-        let Some(event) = *slot else {
+        if looks & bit_of(place) == 0 {
             continue;
+        }
+        let (Some(run), Some(seat)) = (runs.get(place), seats.get_mut(place)) else {
+            return done;
         };
-        let (done, hand) = events_from(rt, run, gate, seat, event);
-        if !done {
-            *slot = None;
+        let (is_done, hand) = events_in(rt, run, is_open, seat);
+        if is_done {
+            done |= bit_of(place);
         }
         hand_to(board, hands, place, hand);
     }
+    done
 }
 
 /// Notes who looks at the run at this place next.
-pub fn hand_to(board: &Board, hands: &mut [u64], place: usize, hand: Hand) {
+fn hand_to(board: &Board, hands: &mut [u64], place: usize, hand: Hand) {
     match hand {
         Hand::Session(session) => {
             if let Some(runs) = hands.get_mut(session as usize) {
@@ -142,10 +138,13 @@ pub fn hand_to(board: &Board, hands: &mut [u64], place: usize, hand: Hand) {
     }
 }
 
-/// Tells the gate what came of the events that were done.
-fn tell_of_each<E: Engine, S: SeatAt<E>, G: Gate>(gate: &G, seats: &[S], events: &[Option<Event>]) {
-    for place in 0..seats.len() {
-        if let (Some(seat), Some(Some(_))) = (seats.get(place), events.get(place)) {
+/// Tells the gate what came of the last event of the session in each of these runs.
+fn tell_of_each<E: Engine, S: SeatAt<E>, G: Gate>(gate: &G, seats: &[S], done: u64) {
+    if gate.is_open() {
+        return;
+    }
+    for (place, seat) in seats.iter().enumerate() {
+        if done & bit_of(place) != 0 {
             tell(gate, seat.last());
         }
     }
@@ -161,17 +160,18 @@ fn pass<E: Engine, S: SeatAt<E>, O: Orderings, D: Drives<E>, G: Gate, R: Wait>(
     session: u32,
     seats: &mut [S],
     looks: u64,
+    hands: &mut [u64],
 ) -> u64 {
-    let mut events = [None; MOST_RUNS];
-    let mut hands = [0u64; MOST_SESSIONS + 1];
-    ask_for_each(rt, runs, board, gate, session, looks, &mut events);
-    do_each(rt, runs, board, gate, seats, &mut events, &mut hands);
-    board.hand_on(session, &hands);
-    tell_of_each::<E, S, G>(gate, seats, &events);
-    match hands.get(session as usize) {
-        Some(own) => *own,
-        None => 0,
-    }
+    let is_open = gate.is_open();
+    let admitted = if is_open {
+        looks
+    } else {
+        admitted_runs(rt, runs, board, gate, session, looks)
+    };
+    let done = do_each(rt, runs, board, is_open, seats, admitted, hands);
+    let again = board.hand_on(session, hands);
+    tell_of_each::<E, S, G>(gate, seats, done);
+    again
 }
 
 /// Does the session's events in all runs until they are over.
@@ -183,16 +183,13 @@ pub fn work<E: Engine, S: SeatAt<E>, O: Orderings, D: Drives<E>, G: Gate, R: Wai
     desk: Desk<'_, S>,
 ) {
     let Desk { session, seats } = desk;
-    let mut again = 0;
+    let mut hands = [0; MOST_SESSIONS + 1];
+    let mut looks = board.take(rt, session);
     for _ in rt.forever() {
-        let looks = if again == 0 {
-            board.take(rt, session)
-        } else {
-            again | board.take_at_once(session)
-        };
         if looks == 0 {
             return;
         }
-        again = pass(rt, runs, board, gate, session, seats, looks);
+        let again = pass(rt, runs, board, gate, session, seats, looks, &mut hands);
+        looks = board.next(rt, session, again);
     }
 }

@@ -84,6 +84,23 @@ struct Desk {
     sleeper: Parker,
 }
 
+impl Desk {
+    /// Puts runs on it, and wakes its thread where it was empty.
+    fn put(&self, runs: u64) {
+        if self.runs.fetch_or(runs, Ordering::SeqCst) == 0 {
+            self.sleeper.unpark();
+        }
+    }
+
+    /// Takes what lies on it, be it nothing.
+    fn take(&self) -> u64 {
+        if self.runs.load(Ordering::SeqCst) == 0 {
+            return 0;
+        }
+        self.runs.swap(0, Ordering::SeqCst)
+    }
+}
+
 /// A desk for each session's thread, and which runs are over. No proof rests on it: it says alone who looks where, and what
 /// is done is found behind the locks of the runs.
 #[derive(Drop)]
@@ -124,22 +141,26 @@ impl Board {
     /// Puts runs on a session's desk, and wakes its thread where the desk was empty.
     pub fn put(&self, session: u32, runs: u64) {
         if let Some(desk) = self.desks.get(session as usize) {
-            if desk.runs.fetch_or(runs, Ordering::SeqCst) == 0 {
-                desk.sleeper.unpark();
-            }
+            desk.put(runs);
         }
     }
 
-    /// Puts what was handed to each session on its desk: the first is the control session's. Of the own session's thread
-    /// nobody has to wake.
-    pub fn hand_on(&self, own: u32, hands: &[u64]) {
+    /// Puts what is handed to each session on its desk, and takes it out of the hands: the first are the control session's.
+    /// Nobody has to be woken for what is handed to the own session: that is answered.
+    pub fn hand_on(&self, own: u32, hands: &mut [u64]) -> u64 {
+        let mut kept = 0;
         let mut session = 0;
-        for runs in hands {
-            if *runs != 0 && session != own {
-                self.put(session, *runs);
+        for (desk, hand) in self.desks.iter().zip(hands) {
+            let runs = *hand;
+            *hand = 0;
+            if session == own {
+                kept = runs;
+            } else if runs != 0 {
+                desk.put(runs);
             }
             session = session.wrapping_add(1);
         }
+        kept
     }
 
     /// The run at this place is over; where all are, everyone is woken.
@@ -158,20 +179,12 @@ impl Board {
         self.over.load(Ordering::SeqCst) == self.all
     }
 
-    /// Takes what lies on a desk, where something does.
-    fn look(&self, desk: &Desk) -> u64 {
-        if desk.runs.load(Ordering::SeqCst) == 0 {
-            return 0;
-        }
-        desk.runs.swap(0, Ordering::SeqCst)
-    }
-
     /// Looks at a desk, as often as its thread has patience. Finds nothing where all runs are over.
     fn look_again(&self, desk: &Desk) -> Option<u64> {
         let looks = desk.patience.looks();
         for _ in 0..looks {
             spin_loop();
-            let runs = self.look(desk);
+            let runs = desk.take();
             if runs != 0 {
                 desk.patience.gain(looks);
                 return Some(runs);
@@ -191,7 +204,7 @@ impl Board {
             return 0;
         };
         for _ in rt.forever() {
-            let runs = self.look(desk);
+            let runs = desk.take();
             if runs != 0 {
                 return runs;
             }
@@ -203,11 +216,14 @@ impl Board {
         unreachable!()
     }
 
-    /// Takes what lies on the session's desk, be it nothing.
-    pub fn take_at_once(&self, session: u32) -> u64 {
+    /// What the session looks at next: the runs that it kept, with what lies on its desk; where it kept none it waits for some.
+    pub fn next<R: Wait>(&self, rt: &R, session: u32, kept: u64) -> u64 {
+        if kept == 0 {
+            return self.take(rt, session);
+        }
         match self.desks.get(session as usize) {
-            Some(desk) => self.look(desk),
-            None => 0,
+            Some(desk) => kept | desk.take(),
+            None => kept,
         }
     }
 }

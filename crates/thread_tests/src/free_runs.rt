@@ -245,7 +245,12 @@ fn workers_tell_what_their_seats_hold(rt: HostRuntime) -> Result<(), Fail> {
     let blocks = blocks(
         alloc,
         2,
-        &["SELECT 0", "SELECT 0", "SELECT 11;", "SELECT 21;"],
+        &[
+            "SELECT 0",
+            "SELECT 0",
+            "SELECT 11; SELECT z",
+            "SELECT -21 AS x; SELECT 1/0",
+        ],
     )?;
     let mut plan = plan_of(alloc, 1, &[FIRST_SCRIPT])?;
     let mut other = Vec::new(alloc);

@@ -17,9 +17,10 @@ use std::sync::atomic::Ordering;
 use std::test::Fail;
 use std::thread::Threads;
 
-/// Two sessions whose statements answer different values.
-const TWO: &str = "session s1 step a { SELECT 11; SELECT 12; } step b { SELECT 13; }
-session s2 step c { SELECT 21; } step d { SELECT 22; SELECT 23; }
+/// Two sessions whose statements answer different values under different titles, and fail in different ways.
+const TWO: &str =
+    "session s1 step a { SELECT 11; SELECT -12 AS x; } step b { SELECT 13 AS y, NULL; SELECT z; }
+session s2 step c { SELECT 21 AS x; } step d { SELECT 'a'; SELECT 1/0; }
 permutation c a d b";
 
 /// The blocks of a spec of sessions that have steps alone.
