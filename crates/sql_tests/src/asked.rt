@@ -13,13 +13,13 @@ pub fn holds(rt: &impl Abort, held: bool, text: &str) {
     assert!(rt; held, "{text}");
 }
 
-/// The block that a short text is, where it is one.
+/// The block that a text is, where it is one and no longer than a file.
 pub fn block_of<'a>(
     alloc: Global,
     role: Role,
     text: &'a str,
 ) -> Result<Option<Block<'a>>, AllocError> {
-    if text.len() > 65536 {
+    if text.len() > 1_048_576 {
         return Ok(None);
     }
     match parse_block(alloc, text, role) {

@@ -6,7 +6,7 @@ use sql_trees::{Expr, Stmt};
 use std::alloc::{AllocError, Global};
 use std::process::Abort;
 
-const SIZES: [usize; 7] = [0, 1, 5, 9, 41, 101, 1001];
+const SIZES: [usize; 8] = [0, 1, 5, 9, 41, 101, 1_001, 5_001];
 
 /// A text that lists: what stands before the list, before and behind the number of each of its parts, and behind the list.
 type Parts = [&'static str; 4];
