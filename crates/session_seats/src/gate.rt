@@ -2,8 +2,8 @@
 use session_machine::{Event, HistItem, Reply};
 use std::thread::yield_now;
 
-/// Is asked before each event and told each reply, by the thread that does the event and without the lock. As it is here it
-/// admits every event.
+/// Is asked before each event and told each reply, by the thread that does the event and without the lock; of the blocks before
+/// and behind the scripts of a free run it hears nothing. As it is here it admits every event.
 pub trait Gate: Sync {
     /// Whether it admits every event at once and needs to hear of none: such a gate is neither asked nor told.
     fn is_open(&self) -> bool {
