@@ -1,10 +1,11 @@
-//! What threads print, beside what the loop on one thread prints.
+//! What threads print, beside what the loop on one thread prints; and how that ends where the engine refuses what is next.
 
 use crate::asking::holds;
 use iso_lexer::FromStd;
-use permutations::run_spec;
-use plain_runs::print_alone;
-use session_threads::OpenGate;
+use permutations::{RunFault, read_file, run_spec};
+use plain_runs::{print_alone, run_alone};
+use session_machine::EngineFault;
+use session_threads::{OpenGate, ThreadFault};
 use std::alloc::Global;
 use std::process::Abort;
 use std::sync::Wait;
@@ -101,6 +102,28 @@ fn prints_the_same<R: Threads + Wait + Sync + Abort>(
 fn threads_print_what_one_thread_prints(rt: HostRuntime) -> Result<(), Fail> {
     for spec in [DEADLOCKS, KEYS] {
         prints_the_same(&rt, rt.alloc(), spec)?;
+    }
+    Ok(())
+}
+
+/// What the engine refuses in the run of the file's first permutation, if it has one, where none of its blocks is there.
+fn refused_without_blocks(alloc: Global, spec: &str) -> Result<Option<EngineFault>, Fail> {
+    let file = read_file(alloc, spec.as_bytes())?;
+    let Some(entries) = file.spec.perms.first() else {
+        return Ok(None);
+    };
+    match run_alone(alloc, &file.spec, &[], entries) {
+        Ok(_) => Ok(None),
+        Err(RunFault::Threads(ThreadFault::Engine(fault))) => Ok(Some(fault)),
+        Err(fault) => Err(fault.into()),
+    }
+}
+
+#[test]
+fn a_refusal_of_the_engine_is_told_as_it_is(rt: HostRuntime) -> Result<(), Fail> {
+    for spec in [KEYS, "session s step a { } permutation a"] {
+        let fault = refused_without_blocks(rt.alloc(), spec)?;
+        holds(&rt, fault == Some(EngineFault::BlockNotAllowed), spec);
     }
     Ok(())
 }

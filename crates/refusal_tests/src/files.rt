@@ -23,7 +23,7 @@ permutation u d c r
 ";
 
 /// No file has more permutations.
-pub const MOST: u64 = 1_000;
+pub const MOST: u64 = 5_001;
 
 /// Runs a file in given orders.
 pub fn run<S: Source, W: Sink, N: Sink, R: Threads + Wait + Sync>(

@@ -71,10 +71,10 @@ const FILES: [(Many, &'static [u32], &'static str); 6] = [
     (Many::Steps, &[1, 5, 9, 41, 101, 1_000], "steps"),
     (
         Many::Permutations,
-        &[1, 5, 9, 41, 101, 1_000],
+        &[1, 5, 9, 41, 101, 1_001, 5_001],
         "permutations",
     ),
-    (Many::Setups, &[0, 1, 5, 9, 41, 101, 1_001], "setups"),
+    (Many::Setups, &[0, 1, 5, 9, 41, 101, 1_001, 5_001], "setups"),
     (Many::Statements, &[0, 1, 5, 9, 41, 101, 256], "statements"),
     (Many::Rows, &[0, 1, 5, 9, 41, 101, 1_001, 5_001], "rows"),
 ];

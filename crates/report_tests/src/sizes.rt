@@ -23,8 +23,6 @@ const SESSIONS: &[u32] = &[1, 5, 9, 41, 63, 64];
 
 const STEPS: &[u32] = &[1, 5, 9, 41, 101, 1_000];
 
-const FEWER: &[u32] = &[0, 1, 5, 9, 41, 101, 1_001];
-
 /// A file: its first words, words that come so many times with their number between them, and its last words.
 #[derive(Clone, Copy)]
 struct Words {
@@ -89,6 +87,7 @@ enum Call {
     FreeRunOfSessions,
     PlanOfSetups,
     ReportBehindSetups,
+    FreeRunOfSetups,
     FreeRunOfSteps,
     StepsThatWait,
     ListedEntries,
@@ -112,7 +111,7 @@ fn asked(call: Call, count: u32) -> Asked {
         Call::PlanOfSessions | Call::PlanOfSetups => Asked::First(first),
         Call::FreeRunOfSessions => Asked::Scripts(count),
         Call::ReportBehindSetups => Asked::Lines(count, 1),
-        Call::FreeRunOfSteps => Asked::Scripts(1),
+        Call::FreeRunOfSetups | Call::FreeRunOfSteps => Asked::Scripts(1),
         // Each step but the last is told twice.
         Call::StepsThatWait => Asked::Lines(0, lines.saturating_mul(2).saturating_sub(1)),
         Call::ListedEntries => Asked::Listed,
@@ -177,20 +176,21 @@ const CONTROL_LEAVES: Round<'static> = Round {
     by: (0, 0),
 };
 
-/// The main setups run, and the step in the block behind theirs.
-const STEP_BEHIND_SETUPS: &[Round<'static>] = &[
-    Round {
-        times: Times::Each,
-        parts: &[To(0, 0), Ends(0)],
-        by: (0, 1),
-    },
-    Round {
-        times: Times::Behind,
-        parts: &[To(1, 0), Ends(1)],
-        by: (0, 1),
-    },
-    SESSION_LEAVES,
-];
+/// The main setups run.
+const MAIN_SETUPS_RUN: Round<'static> = Round {
+    times: Times::Each,
+    parts: &[To(0, 0), Ends(0)],
+    by: (0, 1),
+};
+
+/// The step runs whose block stands behind those of the main setups.
+const STEP_BEHIND_RUNS: Round<'static> = Round {
+    times: Times::Behind,
+    parts: &[To(1, 0), Ends(1)],
+    by: (0, 1),
+};
+
+const STEP_BEHIND_SETUPS: &[Round<'static>] = &[MAIN_SETUPS_RUN, STEP_BEHIND_RUNS, SESSION_LEAVES];
 
 const STEPS_RUN: &[Round<'static>] = &[EACH_STEP_RUNS, SESSION_LEAVES];
 
@@ -213,7 +213,7 @@ const ENDS: Round<'static> = Round {
     by: (0, 0),
 };
 
-const CASES: [Case; 14] = [
+const CASES: [Case; 15] = [
     Case {
         call: Call::PlanOfSessions,
         words: MANY_SESSIONS,
@@ -252,13 +252,25 @@ const CASES: [Case; 14] = [
         words: MANY_SETUPS,
         steps: Steps::OfOneSession(Times::Once),
         rounds: STEP_BEHIND_SETUPS,
-        numbers: FEWER,
+        numbers: SIZES,
     },
     Case {
         call: Call::ReportBehindSetups,
         words: ONE_STEP,
         steps: Steps::OfOneSession(Times::Once),
         rounds: STEP_BEHIND_SETUPS,
+        numbers: SIZES,
+    },
+    Case {
+        call: Call::FreeRunOfSetups,
+        words: MANY_SETUPS,
+        steps: Steps::OfOneSession(Times::Once),
+        rounds: &[
+            MAIN_SETUPS_RUN,
+            CONTROL_LEAVES,
+            STEP_BEHIND_RUNS,
+            SESSION_LEAVES,
+        ],
         numbers: SIZES,
     },
     Case {
@@ -276,7 +288,7 @@ const CASES: [Case; 14] = [
         ],
         numbers: STEPS,
     },
-    // Each session's step waits, and once the last one waits too all of them end.
+    // Each session's step waits, and once the last one waits too all of them end. A file has at most 64 sessions, but the report takes the steps of any number.
     Case {
         call: Call::StepsThatWait,
         words: ONE_STEP,
@@ -293,7 +305,7 @@ const CASES: [Case; 14] = [
                 by: (1, 0),
             },
         ],
-        numbers: FEWER,
+        numbers: SIZES,
     },
     Case {
         call: Call::ListedEntries,
