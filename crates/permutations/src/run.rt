@@ -17,6 +17,17 @@ use std::alloc::Global;
 use std::sync::Wait;
 use std::thread::Threads;
 
+/// The size of a block that is asked for and let go before a file runs: the C library learns from the largest ones of 32 MiB and
+/// less.
+const LARGE: usize = 31 << 20;
+
+/// Asks for a large block and lets it go, untouched. The C library then keeps up to twice as much freed memory for what is asked
+/// for next; else it gives pages back after each set of runs, and each is filled with zeros again for the next one. Where memory is
+/// refused nothing changes.
+fn keep_freed_memory(alloc: Global) {
+    let _ = Vec::<u8>::with_capacity(alloc, LARGE);
+}
+
 /// Reads a spec file, runs its permutations, each on a new engine and with a thread for each session, and writes their
 /// reports one after the other; what a teardown fails with goes to the notes. Several run side by side, no more than the
 /// limit leaves, so that the gate, which is asked before each event and told each reply, sees events of several between each
@@ -47,6 +58,7 @@ pub fn run_spec<S: Source, W: Sink, N: Sink, G: Gate, R: Threads + Wait + Sync>(
     ensures sure { IsStoppedByThreads result }
 {
     specs_have_their_blocks();
+    keep_freed_memory(alloc);
     let run = |file: &SpecFile<'_>, taken: Vec<Vec<Entry>>, room: Vec<Draft>| -> Vec<Draft>
         requires stands { Stands (spec_view file.now.spec) }
         requires room { HasRoomFor room taken.items }

@@ -1,9 +1,9 @@
 //! What stands behind the lock of a free run, and how an event is done there.
-ghost use Rattle.std.specs.Prelude.{◌≡◌, true, None, Some, is_some, length, IfSome};
+ghost use Rattle.std.specs.Prelude.{◌≡◌, true, None, Some, is_some, length, IfNone, IfSome};
 ghost use Rattle.std.specs.Option.{option_or};
 ghost use Rattle.session_machine.specs.Machine.{session_of};
 ghost use Rattle.session_seats.specs.Acts.{IsRunOf};
-ghost use Rattle.session_crews.specs.Inner.FreeRuns.{AllDone, AreAtStart, HaveDone, IsNextOf};
+ghost use Rattle.session_crews.specs.Inner.FreeRuns.{AllDone, AreAtStart, HaveDone, IsNextOf, NothingIsNextOf};
 
 use crate::free_run::FreeRun;
 use crate::progress::Progress;
@@ -78,10 +78,11 @@ impl<'p, E: Engine, P: Scripting> FreeShared<'p, E, P> {
         }
     }
 
-    /// What the session does next; `None` where it has done its script.
+    /// What the session does next; `None` where it has done its script, or has none.
     pub fn due(&self, session: u32) -> Option<Event>
         ensures own { IfSome result (λ event. session_of event ≡ session) }
         ensures next { IfSome result (λ event. IsNextOf self.now.progress session event) }
+        ensures none { IfNone result (NothingIsNextOf self.now.progress session) }
     {
         match session {
             0 => None,

@@ -1,5 +1,5 @@
 //! How far a session has come with its script.
-ghost use Rattle.std.specs.Prelude.{◌≡◌, [], true, IfSome};
+ghost use Rattle.std.specs.Prelude.{◌≡◌, ◌↔◌, [], true, IfSome, IsTrue};
 ghost use Rattle.session_machine.specs.Machine.{session_of};
 ghost use Rattle.session_seats.specs.FreeRuns.{script_events};
 ghost use Rattle.session_crews.specs.Inner.FreeRuns.{next_event, left_after};
@@ -73,7 +73,7 @@ impl<'p> Progress<'p> {
 
     /// Whether the session has done all of its script.
     pub fn is_done(&self) -> bool
-        ensures { result ≡ true → (self.now.over ≡ true) × (self.now.events ≡ []) }
+        ensures { IsTrue result ↔ ((self.now.over ≡ true) × (self.now.events ≡ [])) }
     {
         self.over && self.left
     }

@@ -89,6 +89,10 @@ pub record IsNextOf (progress : List ProgressOf) (number : ℕ) (event : Event) 
   pub there : slice_get progress place ≡ Some at
   pub next : next_event at.session at.over at.events ≡ Some event
 
+-- nothing is next for the session: it has done its script, or has none
+abbrev pub NothingIsNextOf : List ProgressOf → ℕ → Type 0
+NothingIsNextOf progress number = (event : Event) → ¬ IsNextOf progress number event
+
 -- each of these sessions has done its script
 abbrev pub HaveDone : List ProgressOf → Type 0
 HaveDone progress = (k : ℕ) (p : ProgressOf) → slice_get progress k ≡ Some p → (p.over ≡ true) × (p.events ≡ [])
