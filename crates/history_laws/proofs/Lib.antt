@@ -8,6 +8,7 @@ pub mod Resting
 pub mod Placed
 pub mod Accepted
 pub mod Existing
+pub mod Taken
 pub mod Entries
 pub mod Lexed
 pub mod Kept

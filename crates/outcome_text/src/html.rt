@@ -1,5 +1,6 @@
 //! What can happen, as a page of HTML that fetches nothing.
 
+use crate::gathered::Gathered;
 use crate::interleaving::put_interleaving;
 use crate::names::Names;
 use crate::plain::put_nearest;
@@ -28,13 +29,13 @@ fn put_row(out: &mut Text, head: &str, outcomes: &[Told], row: usize) {
 }
 
 /// Puts the table of outcomes.
-fn put_table(out: &mut Text, rows: &[String], outcomes: &[Told]) {
+fn put_table(out: &mut Text, rows: &Gathered<String>, outcomes: &[Told]) {
     out.put(
         "<div class=\"scroll\" role=\"region\" aria-label=\"outcomes\" tabindex=\"0\"><table>\n<thead><tr><th></th>",
     );
     put_links(out, outcomes);
     out.put("</tr></thead>\n<tbody>\n");
-    for (row, head) in rows.iter().enumerate() {
+    for (row, head) in rows.all().iter().enumerate() {
         if row > 0 && is_shown(outcomes, row) {
             put_row(out, head.as_str(), outcomes, row);
         }

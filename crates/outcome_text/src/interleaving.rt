@@ -2,14 +2,12 @@
 
 use crate::names::Names;
 use crate::text::Text;
-use crate::told::{Class, Place, Told, text_in};
+use crate::told::{Place, Told, text_in};
 
 /// What the nearest serial order has in this row, if that is another.
-fn other(class: &Class, row: usize) -> Option<&str> {
-    let Class::NotSerial(Some(nearest)) = class else {
-        return None;
-    };
-    for differing in &nearest.rows {
+fn other(told: &Told, row: usize) -> Option<&str> {
+    let nearest = told.nearest()?;
+    for differing in nearest.rows.all() {
         if *differing == row {
             return Some(text_in(&nearest.cells, row));
         }
@@ -19,7 +17,7 @@ fn other(class: &Class, row: usize) -> Option<&str> {
 
 /// Puts the cell of a step, marked where the nearest serial order has another answer.
 fn put_cell(out: &mut Text, names: &Names, told: &Told, row: usize) {
-    let other = other(&told.class, row);
+    let other = other(told, row);
     out.fill(
         "<td class=\"step{}\"><b>{}</b><span class=\"sql\">{}</span><span class=\"answer\">",
         &[
@@ -41,7 +39,7 @@ fn put_row(out: &mut Text, names: &Names, told: &Told, number: usize, place: &Pl
     out.put("<tr><th scope=\"row\" class=\"number\">");
     out.put_count(number as u64);
     out.put("</th>");
-    for session in 1..names.sessions.len().saturating_add(1) {
+    for session in 1..names.sessions.all().len().saturating_add(1) {
         if session == place.session {
             put_cell(out, names, told, place.row);
         } else {
@@ -57,11 +55,11 @@ pub fn put_interleaving(out: &mut Text, names: &Names, told: &Told) {
     out.put(
         "<div class=\"scroll\" role=\"region\" aria-label=\"interleaving\" tabindex=\"0\"><table class=\"run\">\n<thead><tr><th scope=\"col\" class=\"number\">#</th>",
     );
-    for session in &names.sessions {
+    for session in names.sessions.all() {
         out.fill("<th scope=\"col\">{}</th>", &[session.as_str()]);
     }
     out.put("</tr></thead>\n<tbody>\n");
-    for (at, place) in told.steps.iter().enumerate() {
+    for (at, place) in told.steps.all().iter().enumerate() {
         put_row(out, names, told, at.saturating_add(1), place);
     }
     out.put("</tbody></table></div>\n");

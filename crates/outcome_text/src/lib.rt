@@ -1,21 +1,26 @@
-//! What can happen in a file, as text and as a page of HTML, made of plain texts: heads, cells, verdicts in words.
+//! What is said of what can happen in a file, and how it is printed, as text or as a page of HTML; what the command line asks for; and what a
+//! terminal shows while permutations run.
 #![tactic(auto)]
 
+mod answer;
+mod cells;
+mod gathered;
 mod heading;
 mod html;
 mod interleaving;
 mod markup;
 mod names;
+mod naming;
 mod page;
 mod plain;
+mod progress;
+mod request;
+mod telling;
 mod text;
-mod texts;
 mod told;
+mod watch;
 
-pub use heading::Heading;
-pub use names::{Names, count_text, outcome_name};
-pub use page::text_of;
-pub use plain::width_of;
-pub use text::Text;
-pub use texts::Texts;
-pub use told::{Class, Nearest, Place, Told};
+pub use answer::{Answer, answer_in};
+pub use progress::Progress;
+pub use request::{Request, USAGE, request_of};
+pub use watch::Watch;

@@ -1,17 +1,20 @@
 //! Names of sessions, steps and outcomes, and verdicts in a few words.
 
+use crate::gathered::Gathered;
 use crate::text::Text;
 use crate::told::text_in;
 use std::alloc::{AllocError, Global};
 
-const LETTERS: &str = "ABCDEFGHIJKLMNOPQRSTUVWXYZ";
+/// So many outcomes have a letter for a name, and the others a number.
+const LETTERS: usize = 26;
 
-/// The name of the outcome of this number: a letter, or behind the last one a number.
+/// The name of the outcome of this number.
 pub fn outcome_name(alloc: Global, number: usize) -> Result<String, AllocError> {
     let mut name = Text::new(alloc, false);
-    match LETTERS.chars().nth(number) {
-        Some(letter) => name.put_char(letter),
-        None => name.put_count((number as u64).saturating_add(1)),
+    if number < LETTERS {
+        name.put_char(char::from(b'A' + number as u8));
+    } else {
+        name.put_count((number as u64).saturating_add(1));
     }
     name.end()
 }
@@ -25,13 +28,18 @@ pub fn count_text(alloc: Global, count: u64) -> Result<String, AllocError> {
 /// The names of the sessions, the head of each row of the table, and the SQL of each step.
 #[derive(Drop)]
 pub struct Names {
-    pub sessions: Vec<String>,
+    pub sessions: Gathered<String>,
     /// Nothing, the names of all steps in the order of the file and of the tables, and two words.
-    pub rows: Vec<String>,
-    pub sqls: Vec<String>,
+    pub rows: Gathered<String>,
+    pub sqls: Gathered<String>,
 }
 
 impl Names {
+    /// Whether memory was refused for one of them.
+    pub fn is_refused(&self) -> bool {
+        self.sessions.is_refused() || self.rows.is_refused() || self.sqls.is_refused()
+    }
+
     /// Puts the names of sessions, which are numbered from 1, with commas between.
     fn put_sessions(&self, out: &mut Text, sessions: &[u32]) {
         for (at, session) in sessions.iter().enumerate() {

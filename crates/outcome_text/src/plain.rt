@@ -1,5 +1,6 @@
 //! What can happen, as text: outcomes side by side, and below them what is said of each.
 
+use crate::gathered::Gathered;
 use crate::text::Text;
 use crate::told::{Class, Nearest, Told, is_shown, text_in};
 
@@ -10,7 +11,11 @@ const MOST_COLUMNS: usize = 6;
 const GAP: usize = 2;
 
 fn chars_in(text: &str) -> usize {
-    text.chars().count()
+    let mut number = 0usize;
+    for _ in text.chars() {
+        number = number.saturating_add(1);
+    }
+    number
 }
 
 /// How wide a column of cells is.
@@ -25,9 +30,9 @@ pub fn width_of(cells: &[String]) -> usize {
 }
 
 /// How wide the heads of the rows that are shown are.
-fn head_width(rows: &[String], outcomes: &[Told]) -> usize {
+fn head_width(rows: &Gathered<String>, outcomes: &[Told]) -> usize {
     let mut width = 0usize;
-    for (row, head) in rows.iter().enumerate() {
+    for (row, head) in rows.all().iter().enumerate() {
         if is_shown(outcomes, row) {
             width = width.max(chars_in(head.as_str()));
         }
@@ -91,9 +96,9 @@ fn put_row(out: &mut Text, head: &str, width: usize, outcomes: &[Told], row: usi
 }
 
 /// Puts some outcomes side by side.
-fn put_table(out: &mut Text, rows: &[String], outcomes: &[Told]) {
+fn put_table(out: &mut Text, rows: &Gathered<String>, outcomes: &[Told]) {
     let width = head_width(rows, outcomes);
-    for (row, head) in rows.iter().enumerate() {
+    for (row, head) in rows.all().iter().enumerate() {
         if is_shown(outcomes, row) {
             put_row(out, head.as_str(), width, outcomes, row);
         }
@@ -101,10 +106,10 @@ fn put_table(out: &mut Text, rows: &[String], outcomes: &[Told]) {
 }
 
 /// Puts the serial order that is nearest to an outcome, and in what they differ.
-pub fn put_nearest(out: &mut Text, rows: &[String], nearest: &Nearest) {
-    out.tell(nearest.order.as_str());
+pub fn put_nearest(out: &mut Text, rows: &Gathered<String>, nearest: &Nearest) {
+    out.tell(text_in(&nearest.cells, 0));
     let mut before = ", where ";
-    for row in &nearest.rows {
+    for row in nearest.rows.all() {
         out.put(before);
         out.fill("{} gives ", &[text_in(rows, *row)]);
         out.tell_lines(text_in(&nearest.cells, *row), "; ");
@@ -113,7 +118,7 @@ pub fn put_nearest(out: &mut Text, rows: &[String], nearest: &Nearest) {
 }
 
 /// Puts the permutation of an outcome, and of one that is not serial the nearest serial order.
-fn put_detail(out: &mut Text, rows: &[String], told: &Told) {
+fn put_detail(out: &mut Text, rows: &Gathered<String>, told: &Told) {
     out.fill("  {}: {}\n", &[told.name(), told.permutation.as_str()]);
     match &told.class {
         Class::NotSerial(Some(nearest)) => {
@@ -127,7 +132,7 @@ fn put_detail(out: &mut Text, rows: &[String], told: &Told) {
 }
 
 /// Puts what can happen, behind the heading.
-pub fn put_plain(out: &mut Text, rows: &[String], outcomes: &[Told]) {
+pub fn put_plain(out: &mut Text, rows: &Gathered<String>, outcomes: &[Told]) {
     let columns = if outcomes.len() <= MOST_COLUMNS {
         MOST_COLUMNS
     } else {

@@ -22,18 +22,6 @@ fn shown(ch: char) -> char {
     }
 }
 
-/// What stands for a character that a page of HTML gives a meaning of its own.
-fn named(ch: char) -> Option<&'static str> {
-    match ch {
-        '<' => Some("&lt;"),
-        '>' => Some("&gt;"),
-        '&' => Some("&amp;"),
-        '"' => Some("&quot;"),
-        '\'' => Some("&#39;"),
-        _ => None,
-    }
-}
-
 /// What was put so far, and whether memory was refused for a piece of it: who takes the text is told.
 #[derive(Drop)]
 pub struct Text {
@@ -83,9 +71,13 @@ impl Text {
             return self.put(piece);
         }
         for ch in piece.chars() {
-            match named(ch) {
-                Some(name) => self.put(name),
-                None => self.put_char(shown(ch)),
+            match ch {
+                '<' => self.put("&lt;"),
+                '>' => self.put("&gt;"),
+                '&' => self.put("&amp;"),
+                '"' => self.put("&quot;"),
+                '\'' => self.put("&#39;"),
+                _ => self.put_char(shown(ch)),
             }
         }
     }
@@ -108,6 +100,23 @@ impl Text {
             }
             self.tell(line);
         }
+    }
+
+    /// What was put so far.
+    pub fn as_str(&self) -> &str {
+        self.so_far.as_str()
+    }
+
+    /// Notes that memory was refused for what is to be put, if it was.
+    pub fn note(&mut self, is_refused: bool) {
+        if is_refused {
+            self.is_refused = true;
+        }
+    }
+
+    /// Whether memory was refused.
+    pub fn is_refused(&self) -> bool {
+        self.is_refused
     }
 
     /// What was put.

@@ -4,7 +4,7 @@ ghost use Rattle.spec_parser.specs.Stands.{Stands};
 ghost use Rattle.spec_parser.specs.Trees.{spec_view};
 
 use crate::counting::outcomes_of;
-use outcome_words::{Answer, Watch, answer_in};
+use outcome_text::{Answer, Watch, answer_in};
 use spec_files::{RunFault, read_file};
 use spec_parser::Spec;
 use sql_blocks::Block;

@@ -11,7 +11,7 @@ mod verdict;
 
 use file::answer_of;
 use iso_lexer::{FromStd, LONGEST_FILE, read_all};
-use outcome_words::{Answer, Progress, Request, USAGE, request_of};
+use outcome_text::{Answer, Progress, Request, USAGE, request_of};
 use spec_files::RunFault;
 use std::env;
 use std::io::{self, ErrorKind, IsTerminal};

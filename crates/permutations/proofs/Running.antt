@@ -3,11 +3,9 @@ use Rattle.std.proofs.Common.{◌≡◌, ℕ, length, map, refl, List, [], ◌�
 use Rattle.std.specs.Prelude.{IfSome, MatchOption, Result, Ok, Err, IfOk, IfErr}
 use Rattle.std.specs.Global.{Vec}
 use Rattle.std.proofs.lemmas.Result.{IfOk-weaker}
-use Rattle.session_machine.specs.declared.event.Mode.{Mode}
 use Rattle.session_machine.specs.declared.event.Mode.TheVariants.{Directed}
 use Rattle.session_machine.specs.Machine.{Machine, Blocks, opening, Run}
 use Rattle.session_machine.specs.Engine.{Engine, is_quiet_in, opened}
-use Rattle.session_core.specs.Engines.{IsOf}
 use Rattle.session_seats.specs.declared.fault.ThreadFault.{ThreadFault}
 use Rattle.session_threads.specs.Closing.{ClosedOf}
 use Rattle.session_seats.specs.Orders.{Orders}
@@ -18,11 +16,10 @@ use Rattle.spec_parser.specs.Trees.{EntryTree, SpecTree, perm_view}
 use Rattle.report_lines.specs.Due.{Launches}
 use Rattle.permutation_plans.specs.Launches.{launches, due_after, due_in}
 use Rattle.permutation_plans.specs.Regular.{IsRegular}
-use Rattle.permutation_plans.proofs.Next.{regular_of}
-use Rattle.permutation_plans.specs.Code.Fits.{FitsAfter}
 use Rattle.spec_files.specs.Inner.Resting.{IsAtRest}
 use Rattle.spec_files.specs.Plans.{Planning, order_after}
 use Rattle.spec_files.proofs.Driven.{plan_fits}
+use Rattle.spec_files.proofs.Rested.{regular}
 use Rattle.permutations.specs.Inner.Runs.{ArePlans, IsPlanOf, RanAs, RanAsEach, RanSo}
 
 rests_in : (e : Engine) (machine : Option Machine) → is_quiet_in machine ≡ true → IfSome machine (λ m. Run e.blocks e.mode (opening e.count) e.history m) → IsAtRest e
@@ -31,19 +28,6 @@ rests_in e (Some m) quiet leads = record { state = m; run = leads; quiet = quiet
 
 pub rests : (e : Engine) → is_quiet_in e.machine ≡ true → IfSome e.machine (λ m. Run e.blocks e.mode (opening e.count) e.history m) → IsAtRest e
 rests e quiet leads = rests_in e e.machine quiet leads
-
--- what was opened over the blocks and came to rest has a regular history, if it fits
-pub regular : (spec : SpecTree) (blocks : Blocks) (entries : List EntryTree) (count : ℕ) (old new : Engine)
-    → old ≡ opened blocks count Directed → IsOf new old.blocks old.count old.mode → count ≡ length spec.sessions → IsAtRest new
-    → FitsAfter (due_in spec entries) [] new.history → IsRegular spec blocks entries new.history
-regular spec blocks entries count old new is same long r fits =
-    let bs : new.blocks ≡ blocks = same.0 ∙ ap (λ (e : Engine). e.blocks) is in
-    let mode : new.mode ≡ Directed = same.2 ∙ ap (λ (e : Engine). e.mode) is in
-    let n : new.count ≡ length spec.sessions = same.1 ∙ ap (λ (e : Engine). e.count) is ∙ long in
-    let run = subst (λ (b : Blocks). Run b Directed (opening (length spec.sessions)) new.history r.state) bs
-    (subst (λ (m : Mode). Run new.blocks m (opening (length spec.sessions)) new.history r.state) mode
-    (subst (λ (k : ℕ). Run new.blocks new.mode (opening k) new.history r.state) n r.run)) in
-    regular_of spec blocks entries new.history r.state run r.quiet fits
 
 -- what a plan of the permutation has driven, and came to rest, has a regular history
 pub regular_as : (spec : SpecTree) (blocks : Blocks) (entries : List EntryTree) (c : ClosedOf) → RanAs spec blocks entries c → IsAtRest c.state → IsRegular spec blocks entries c.state.history

@@ -1,67 +1,45 @@
-//! A permutation as the driver of its run.
+//! A permutation's plan as the driver of its run.
 
-ghost use Rattle.std.specs.Prelude.{◌≡◌, ◌<◌, ◌^◌, length, map, IfOk, OnOk};
+ghost use Rattle.std.specs.Prelude.{◌≡◌, ◌<◌, ◌^◌, length, map, IfOk};
 ghost use Rattle.spec_parser.specs.Trees.{entry_view, spec_view};
 ghost use Rattle.permutation_plans.specs.Launches.{launches};
 ghost use Rattle.spec_files.specs.Plans.{order_after, IsFollowing};
 
-use permutation_plans::Launches;
-use report_lines::PlanProgress;
 use row_versions::Versions;
 use session_core::EngineState;
-use session_machine::HistItem;
 use session_threads::{Driver, Order};
+use spec_files::PlanSoFar;
 use spec_parser::{Entry, Spec};
 use std::alloc::{AllocError, Global};
 use std::marker::Model;
 
-/// What a permutation launches, by its entries and what the engine has answered so far.
+/// A permutation's plan, whose orders an engine is given.
 #[derive(Drop)]
 pub struct Plan<'s> {
-    launches: Launches,
-    entries: &'s [Entry],
-    progress: PlanProgress,
+    plan: PlanSoFar<'s>,
 }
 
 impl<'s> Model for Plan<'s> {
-    ghost use Rattle.std.specs.Prelude.{map};
-    ghost use Rattle.spec_parser.specs.Trees.{entry_view};
     ghost use Rattle.spec_files.specs.Plans.{Planning};
 
     ghost Value = { Planning };
 
-    ghost view = { λ p. record { launches = p.launches; entries = map entry_view p.entries.now; progress = p.progress } };
+    ghost view = { λ d. d.plan };
 }
 
 impl<'s> Plan<'s> {
     ghost use Rattle.std.specs.Prelude.{List};
     ghost use Rattle.session_machine.specs.declared.reply.HistItem.{HistItem};
-    ghost use Rattle.spec_files.specs.Plans.{order_after, IsFollowing};
+    ghost use Rattle.spec_files.specs.Plans.{IsFollowing};
 
-    /// The plan of the spec's permutation that has these entries.
+    /// The driver of the spec's permutation that has these entries.
     pub fn new(alloc: Global, spec: &Spec<'_>, entries: &'s [Entry]) -> Result<Plan<'s>, AllocError>
         requires { length spec.now.sessions.items < 2 ^ 32 }
         ensures plan { IfOk result (λ p. (p.launches ≡ launches (spec_view spec.now) (map entry_view entries.now)) × (p.entries ≡ map entry_view entries.now)) }
         ensures follows { IfOk result (λ p. (items : List HistItem) → IsFollowing p items) }
     {
-        let launches = Launches::of(alloc, spec, entries)?;
-        let progress = launches.begin(alloc, entries)?;
-        Ok(Plan {
-            launches,
-            entries,
-            progress,
-        })
-    }
-
-    /// The next order, by what was kept of a front of the history when it was last asked for.
-    pub fn go_on(&mut self, alloc: Global, items: &[HistItem<'_>]) -> Result<Order, AllocError>
-        requires follows { IsFollowing self.old items.now }
-        ensures order { IfOk result (λ order. order ≡ order_after self.old items.now) }
-        ensures follows { OnOk result (IsFollowing self.new items.now) }
-        ensures same { (self.new.launches ≡ self.old.launches) × (self.new.entries ≡ self.old.entries) }
-    {
-        self.launches
-            .go_on(alloc, self.entries, items, &mut self.progress)
+        let plan = PlanSoFar::new(alloc, spec, entries)?;
+        Ok(Plan { plan })
     }
 }
 
@@ -75,7 +53,7 @@ impl<'s, V: Versions> Driver<V> for Plan<'s> {
         alloc: Global,
         engine: &EngineState<'_, '_, V>,
     ) -> Result<Order, AllocError> {
-        self.go_on(alloc, engine.history())
+        self.plan.go_on(alloc, engine.history())
     }
 
     ghost use Rattle.spec_files.specs.Code.Following.{follows_longer};

@@ -1,5 +1,5 @@
 -- A run on one thread, under way: what it did so far is in order.
-use Rattle.std.proofs.Common.{◌≡◌, ◌≢◌, true≢false, refl, ℕ, length, List, [], ◌∷◌, sym, ap, subst, ◌∙◌, Option, Some, None, false, ◌++◌, ◌<◌, arith}
+use Rattle.std.proofs.Common.{◌≡◌, ◌≢◌, refl, ℕ, length, List, [], ◌∷◌, sym, ap, subst, ◌∙◌, Option, Some, None, ◌++◌, ◌<◌, append-nil, append_assoc, arith}
 use Rattle.std.specs.Prelude.{Result, Ok, Err, IfSome}
 use Rattle.std.specs.Option.{option_map_or}
 use Rattle.session_machine.specs.declared.event.Event.{Event}
@@ -17,11 +17,7 @@ use Rattle.session_machine.specs.Machine.{Machine, Blocks, Next, next, opening, 
 use Rattle.session_machine.specs.Engine.{Engine, EngineAnswered, engine_after, engine_answered, engine_step, fault_of, opened}
 use Rattle.session_core.specs.Engines.{IsOf}
 use Rattle.session_seats.specs.declared.fault.ThreadFault.TheVariants.{Engine as Engine_fault}
-use Rattle.session_seats.specs.Acts.{Acted}
-use Rattle.session_seats.specs.Orders.{Orders, IsOrder}
-use Rattle.session_crews.specs.Inner.Shared.{RunsInOrder}
-use Rattle.session_seats.specs.Seats.{SeatOf, with_item}
-use Rattle.session_crews.proofs.Ordering as threads
+use Rattle.session_seats.specs.Orders.{Orders, IsOrder, OrderedAfter}
 use Rattle.spec_parser.specs.Trees.{EntryTree, SpecTree}
 use Rattle.report_lines.specs.Starts.{order_of}
 use Rattle.report_lines.specs.Due.{Launches}
@@ -41,7 +37,7 @@ pub record IsUnderWay (first plan : Planning) (opened e : Engine) : Type 0 where
   pub launches : plan.launches ≡ first.launches
   pub entries : plan.entries ≡ first.entries
   pub follows : IsFollowing plan e.history
-  pub orderly : RunsInOrder (order_after first) e.history None false
+  pub ordered : OrderedAfter (order_after first) [] e.history
   pub same : IsOf e opened.blocks opened.count opened.mode
 
 -- plans of the same launches and entries order the same
@@ -49,12 +45,27 @@ at_first : (P : Orders → Type 0) (first plan : Planning) → plan.launches ≡
 at_first P first plan launches entries is =
     subst (λ (es : List EntryTree). P (due_after first.launches es)) entries (subst (λ (l : Launches). P (due_after l plan.entries)) launches is)
 
-abbrev no_seat : SeatOf
-no_seat = record { session = 0; items = [] }
+-- the items go on by one that is ordered
+ordered_on : (orders : Orders) (before items : List HistItem) (item : HistItem) → OrderedAfter orders before items → IsOrder item.event (orders (before ++ items)) → OrderedAfter orders before (items ++ item ∷ [])
+ordered_on orders before [] item ordered is = (subst (λ w. IsOrder item.event (orders w)) (append-nil before) is, tt)
+ordered_on orders before (i ∷ is) item ordered last =
+    (ordered.0, ordered_on orders (before ++ i ∷ []) is item ordered.1 (subst (λ w. IsOrder item.event (orders w)) (sym (append_assoc before (i ∷ []) is)) last))
 
-abbrev acted : (event : Event) (before after : Engine) (reply : Reply) → engine_after before event ≡ record { engine = after; answer = Ok reply }
-    → Acted event before after no_seat (with_item no_seat event reply)
-acted event before after reply is = record { reply = reply; engine = is; seat = refl }
+-- an answer is the next item of the history
+answered_item : (e : Engine) (event : Event) (n : Result Next Refusal) (reply : Reply) → (engine_answered e event n).answer ≡ Ok reply
+    → (engine_answered e event n).engine.history ≡ e.history ++ record { event = event; reply = reply } ∷ []
+answered_item e event (Err refusal) reply is = absurd cc
+answered_item e event (Ok n) reply is = let same : n.reply ≡ reply = cc in ap (λ (r : Reply). e.history ++ record { event = event; reply = r } ∷ []) same
+
+step_item : (e : Engine) (event : Event) (m : Option Machine) (reply : Reply) → (engine_step e event m).answer ≡ Ok reply
+    → (engine_step e event m).engine.history ≡ e.history ++ record { event = event; reply = reply } ∷ []
+step_item e event None reply is = absurd cc
+step_item e event (Some m) reply is = answered_item e event (next e.blocks e.mode m event) reply is
+
+acted_history : (event : Event) (before after : Engine) (reply : Reply) → engine_after before event ≡ record { engine = after; answer = Ok reply }
+    → after.history ≡ before.history ++ record { event = event; reply = reply } ∷ []
+acted_history event before after reply is =
+    sym (ap (λ (x : EngineAnswered). x.engine.history) is) ∙ step_item before event before.machine reply (ap (λ (x : EngineAnswered). x.answer) is)
 
 -- the event that the plan orders was done
 pub goes_on : (first plan now : Planning) (opened e after : Engine) (event : Event) (reply : Reply)
@@ -62,13 +73,13 @@ pub goes_on : (first plan now : Planning) (opened e after : Engine) (event : Eve
     → engine_after e event ≡ record { engine = after; answer = Ok reply } → IsOf after e.blocks e.count e.mode → IsUnderWay first now opened after
 goes_on first plan now opened e after event reply so launches entries follows ordered done same =
     let item : HistItem = record { event = event; reply = reply } in
-    let act = acted event e after reply done in
+    let longer = sym (acted_history event e after reply done) in
     let due = at_first (λ (orders : Orders). IsOrder event (orders e.history)) first plan so.launches so.entries ordered in
     record {
       launches = launches ∙ so.launches;
       entries = entries ∙ so.entries;
-      follows = subst (λ (w : List HistItem). IsFollowing now w) (sym (threads.acted_history event e after no_seat _ act)) (follows_longer _ (item ∷ []) now.progress follows);
-      orderly = threads.goes_on (order_after first) event e after no_seat _ None false so.orderly due act (λ is. true≢false (sym is));
+      follows = subst (λ (w : List HistItem). IsFollowing now w) longer (follows_longer _ (item ∷ []) now.progress follows);
+      ordered = subst (OrderedAfter (order_after first) []) longer (ordered_on (order_after first) [] e.history item so.ordered due);
       same = (same.0 ∙ so.same.0, same.1 ∙ so.same.1, same.2 ∙ so.same.2);
     }
 
@@ -100,7 +111,7 @@ refuses_next first plan opened e after event fault so is_next is =
       run = subst (λ (b : Blocks). Run b opened.mode (opening opened.count) e.history is_next.state) so.same.0
           (subst (λ (m : Mode). Run e.blocks m (opening opened.count) e.history is_next.state) so.same.2
           (subst (λ (k : ℕ). Run e.blocks e.mode (opening k) e.history is_next.state) so.same.1 is_next.run));
-      ordered = so.orderly.ordered;
+      ordered = so.ordered;
       event = event;
       due = at_first (λ (orders : Orders). next_event (turn_in is_next.state) (orders e.history) ≡ Some event) first plan so.launches so.entries (sym is_next.is);
       refusal = refused.0;

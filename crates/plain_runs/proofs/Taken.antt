@@ -11,7 +11,7 @@ use Rattle.permutation_plans.specs.Launches.{due_in}
 use Rattle.spec_files.specs.Complete.{HasItsBlocks, HasItsSteps}
 use Rattle.spec_files.specs.declared.fault.RunFault.{RunFault}
 use Rattle.spec_files.specs.declared.fault.RunFault.TheVariants as faults
-use Rattle.permutations.proofs.Taken.{next_is_done}
+use Rattle.history_laws.proofs.Taken.{next_is_done}
 use Rattle.plain_runs.specs.Alone.{IsOfAlone, RefusesNext}
 
 both_ways : (refusal : Refusal) (n : Next) → ◌≡◌ {A = Result Next Refusal} (Err refusal) (Ok n) → ⊥

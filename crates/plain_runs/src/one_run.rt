@@ -14,11 +14,11 @@ ghost use Rattle.spec_files.specs.Plans.{order_after, IsFollowing};
 ghost use Rattle.plain_runs.specs.Alone.{IsOfAlone, RefusesNext};
 ghost use Rattle.plain_runs.specs.Inner.Next.{IsNextEvent};
 
-use permutations::{Plan, RunFault};
 use row_versions::ListStore;
 use session_core::EngineState;
-use session_machine::{EngineFault, Event, Mode, Turn};
-use session_threads::{Order, ThreadFault};
+use session_machine::{EngineFault, Event, Mode, Order, Turn};
+use session_seats::ThreadFault;
+use spec_files::{PlanSoFar, RunFault};
 use spec_parser::{Entry, Spec};
 use sql_blocks::Block;
 use std::alloc::{AllocError, Global};
@@ -27,7 +27,7 @@ use std::alloc::{AllocError, Global};
 /// more. An engine is spent where memory was refused.
 fn next_event<'a, 't>(
     alloc: Global,
-    plan: &mut Plan<'_>,
+    plan: &mut PlanSoFar<'_>,
     engine: &EngineState<'a, 't, ListStore>,
 ) -> Result<Option<Event>, AllocError>
     requires follows { IsFollowing plan.old engine.now.history }
@@ -51,7 +51,7 @@ fn next_event<'a, 't>(
 /// Does what the plan orders, and each Step in its turn, until it orders no more.
 fn run_to_end<'a, 't>(
     alloc: Global,
-    plan: &mut Plan<'_>,
+    plan: &mut PlanSoFar<'_>,
     engine: &mut EngineState<'a, 't, ListStore>,
 ) -> Result<(), EngineFault>
     requires follows { IsFollowing plan.old engine.old.history }
@@ -90,7 +90,7 @@ pub fn run_alone<'a, 't>(
     let sessions = spec.sessions.len() as u32;
     let store = ListStore::new(alloc);
     let mut engine = EngineState::new(alloc, blocks, sessions, Mode::Directed, store)?;
-    let mut plan = Plan::new(alloc, spec, entries)?;
+    let mut plan = PlanSoFar::new(alloc, spec, entries)?;
     if let Err(fault) = run_to_end(alloc, &mut plan, &mut engine) {
         return Err(ThreadFault::Engine(fault).into());
     }

@@ -17,7 +17,7 @@ use crate::one_run::run_alone;
 use history_laws::laws::specs_have_their_blocks;
 use iso_lexer::Sink;
 use permutation_lists::Permutations;
-use permutations::{RunFault, read_file, write_permutation};
+use spec_files::{RunFault, read_file, write_permutation};
 use spec_parser::{Entry, Spec};
 use sql_blocks::Block;
 use std::alloc::Global;

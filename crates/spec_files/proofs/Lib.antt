@@ -2,6 +2,7 @@ pub mod Reading
 pub mod FileLemmas
 pub mod Listing
 pub mod Driven
+pub mod Rested
 pub mod OneFile
 pub mod Telling
 pub mod Printing

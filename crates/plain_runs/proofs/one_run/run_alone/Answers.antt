@@ -7,10 +7,10 @@ use Rattle.permutation_plans.specs.Launches.{due_in}
 use Rattle.plain_runs.specs.Alone.{IsOfAlone}
 use Rattle.spec_files.specs.Faults.{thread_fault}
 use Rattle.spec_files.proofs.Driven.{plan_fits}
+use Rattle.spec_files.proofs.Rested.{regular}
 use Rattle.spec_files.specs.declared.fault.RunFault.TheVariants as faults
 use Rattle.plain_runs.proofs.Going.{told_alone}
 use Rattle.plain_runs.proofs.Taken.{alone_sure}
-use Rattle.permutations.proofs.Running.{regular}
 use Rattle.plain_runs.proofs.one_run.run_alone.Goals as goal
 
 pub returns-clause-regular : goal.returns-clause-regular

@@ -29,6 +29,33 @@ pub struct Request {
     pub limit: u64,
 }
 
+impl Request {
+    /// Takes an option, and returns whether it is one that stands alone.
+    fn take(&mut self, word: &str) -> bool {
+        if word == "--html" {
+            self.html = true;
+        } else if word == "--serial" {
+            self.serial = true;
+        } else if word == "--help" {
+            self.help = true;
+        } else {
+            return false;
+        }
+        true
+    }
+
+    /// Takes the word behind `--limit`, and returns whether it is a number.
+    fn take_limit(&mut self, word: &str) -> bool {
+        match word.parse::<u32>() {
+            Ok(limit) => {
+                self.limit = u64::from(limit);
+                true
+            }
+            Err(_) => false,
+        }
+    }
+}
+
 /// What the words ask for, of which the first is the program's name; none where they are no call.
 pub fn request_of(words: &[String]) -> Option<Request> {
     let mut request = Request {
@@ -38,19 +65,16 @@ pub fn request_of(words: &[String]) -> Option<Request> {
         limit: DEFAULT_LIMIT,
     };
     let mut is_limit = false;
-    for word in words.iter().skip(1) {
+    for k in 1..words.len() {
+        let word = words[k].as_str();
         if is_limit {
-            request.limit = u64::from(word.as_str().parse::<u32>().ok()?);
+            if !request.take_limit(word) {
+                return None;
+            }
             is_limit = false;
-        } else if word.as_str() == "--html" {
-            request.html = true;
-        } else if word.as_str() == "--serial" {
-            request.serial = true;
-        } else if word.as_str() == "--limit" {
+        } else if word == "--limit" {
             is_limit = true;
-        } else if word.as_str() == "--help" {
-            request.help = true;
-        } else {
+        } else if !request.take(word) {
             return None;
         }
     }

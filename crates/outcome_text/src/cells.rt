@@ -1,8 +1,8 @@
 //! What an outcome has in each of its parts: what a step answered, or the rows of a table. A part is told by its number: the steps in
 //! the order of the file, and behind them the tables.
 
+use crate::text::Text;
 use outcome_counts::{RunOutcome, same_answers, same_table};
-use outcome_text::Text;
 use session_machine::{Outcome, StmtFault};
 use sql_values::{Row, Value};
 use std::alloc::{AllocError, Global};

@@ -1,39 +1,41 @@
 //! Names of sessions, steps and tables, and verdicts in a few words.
 
+use crate::gathered::Gathered;
+use crate::names::Names;
+use crate::text::Text;
 use outcome_counts::written;
-use outcome_text::{Names, Text, Texts};
 use outcome_verdicts::{Verdict, step_number};
 use spec_parser::{SessionPart, Spec};
 use std::alloc::{AllocError, Global};
 
-/// Adds the names of a session's steps, and their SQL.
-fn add_steps(alloc: Global, rows: &mut Texts, sqls: &mut Texts, session: &SessionPart<'_>) {
+/// Adds the names of a session and of its steps, and their SQL.
+fn add_session(alloc: Global, names: &mut Names, session: &SessionPart<'_>) {
+    names.sessions.add_made(written(alloc, &session.name));
     for step in &session.steps {
-        rows.add(written(alloc, &step.name));
-        sqls.add(String::from_str(alloc, step.part.sql.trim()));
+        names.rows.add_made(written(alloc, &step.name));
+        names
+            .sqls
+            .add_made(String::from_str(alloc, step.part.sql.trim()));
     }
 }
 
 /// The names in a spec, and these of its tables.
-pub fn names_of(alloc: Global, spec: &Spec<'_>, tables: &[String]) -> Result<Names, AllocError> {
-    let mut sessions = Texts::new(alloc);
-    let mut rows = Texts::new(alloc);
-    let mut sqls = Texts::new(alloc);
-    rows.add(Ok(String::new(alloc)));
+pub fn names_of(alloc: Global, spec: &Spec<'_>, tables: &[String]) -> Names {
+    let mut names = Names {
+        sessions: Gathered::new(alloc),
+        rows: Gathered::new(alloc),
+        sqls: Gathered::new(alloc),
+    };
+    names.rows.add(String::new(alloc));
     for session in &spec.sessions {
-        sessions.add(written(alloc, &session.name));
-        add_steps(alloc, &mut rows, &mut sqls, session);
+        add_session(alloc, &mut names, session);
     }
     for table in tables {
-        rows.add(String::from_str(alloc, table.as_str()));
+        names.rows.add_made(String::from_str(alloc, table.as_str()));
     }
-    rows.add(String::from_str(alloc, "permutations"));
-    rows.add(String::from_str(alloc, "verdict"));
-    Ok(Names {
-        sessions: sessions.end()?,
-        rows: rows.end()?,
-        sqls: sqls.end()?,
-    })
+    names.rows.add_made(String::from_str(alloc, "permutations"));
+    names.rows.add_made(String::from_str(alloc, "verdict"));
+    names
 }
 
 /// A verdict in a few words.

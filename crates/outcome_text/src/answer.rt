@@ -1,8 +1,9 @@
 //! What is printed of what can happen.
 
-use crate::names::names_of;
+use crate::heading::Heading;
+use crate::naming::names_of;
+use crate::page::text_of;
 use crate::telling::told_all;
-use outcome_text::{Heading, text_of};
 use outcome_verdicts::{Judged, Outcomes, Verdict};
 use spec_parser::Spec;
 use std::alloc::{AllocError, Global};
@@ -50,10 +51,11 @@ pub fn answer_in(
     is_html: bool,
 ) -> Result<Answer, AllocError> {
     let heading = heading_of(outcomes);
-    let names = names_of(alloc, spec, &outcomes.tables)?;
-    let told = told_all(alloc, spec, &names, outcomes)?;
+    let names = names_of(alloc, spec, &outcomes.tables);
+    let told = told_all(alloc, spec, &names, outcomes);
+    let text = text_of(alloc, &heading, &names, &told, is_html)?;
     Ok(Answer {
-        text: text_of(alloc, &heading, &names, &told, is_html)?,
+        text,
         serial: heading.not_serial == 0,
     })
 }
