@@ -75,7 +75,7 @@ impl fmt::Display for BlockFault {
 impl Error for BlockFault {}
 
 /// Why a file was not run to its end.
-#[derive(Debug)]
+#[derive(Debug, Drop)]
 pub enum RunFault {
     /// The input failed.
     Read,
@@ -101,23 +101,6 @@ pub enum RunFault {
     NotUtf8 { at: usize },
     /// Memory was refused.
     Memory,
-}
-
-/// Written out, as that of `SpecFile`.
-impl Drop for RunFault {
-    fn drop(self) {
-        match self {
-            RunFault::SetupFailed { text: _ } => {}
-            RunFault::NotUtf8 { at: _ } => {}
-            RunFault::Lex(_) | RunFault::Spec(_) | RunFault::Sql(_) | RunFault::Threads(_) => {}
-            RunFault::Read
-            | RunFault::Write
-            | RunFault::SetupWaits
-            | RunFault::ScheduleBroken
-            | RunFault::TooManyPermutations
-            | RunFault::Memory => {}
-        }
-    }
 }
 
 /// Prints the number and the name, and the byte of the file where it has one.
