@@ -1,10 +1,11 @@
 //! A permutation's report in memory, before its turn comes.
 
-ghost use Rattle.std.specs.Prelude.{◌≡◌, map, IfSome};
+ghost use Rattle.std.specs.Prelude.{◌≡◌, map, Err, IfErr, IfSome};
 ghost use Rattle.sql_blocks.specs.Blocks.{blocks_of};
 ghost use Rattle.spec_parser.specs.Trees.{entry_view, spec_view};
 ghost use Rattle.spec_parser.specs.Stands.{Stands};
 ghost use Rattle.spec_files.specs.Drafts.{AreDrafts, HasRoomFor, IsDraft};
+ghost use Rattle.spec_files.specs.Faults.{thread_fault};
 ghost use Rattle.permutations.specs.Inner.Runs.{RanSo};
 
 use crate::thread_run::{runs_of, tell_permutation};
@@ -30,6 +31,7 @@ fn draft_of(
     requires ran { IfSome run (RanSo (spec_view spec.now) (blocks_of blocks.now) (map entry_view entries.items)) }
     ensures draft { IsDraft (spec_view spec.now) (blocks_of blocks.now) result }
     ensures entries { result.entries ≡ entries }
+    ensures exact { IfSome run.entry (λ run. IfErr run (λ fault. result.result ≡ Err (thread_fault fault))) }
 {
     let mut text = Page::new(alloc);
     let mut notes = Page::new(alloc);

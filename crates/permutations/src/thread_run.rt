@@ -13,6 +13,7 @@ ghost use Rattle.spec_files.specs.Plans.{IsFollowing};
 ghost use Rattle.spec_files.specs.Runs.{is_of_one, is_of_run, has_broken, has_ended, IsOneTold};
 ghost use Rattle.spec_files.specs.Written.{IsWritten};
 ghost use Rattle.spec_files.specs.Complete.{HasItsBlocks, HasItsSteps};
+ghost use Rattle.spec_files.specs.Faults.{thread_fault};
 ghost use Rattle.permutations.specs.Inner.Runs.{ArePlans, RanAsEach, RanSo};
 ghost use Rattle.spec_files.specs.Stopped.{is_of_threads, IsStoppedSo};
 
@@ -99,8 +100,8 @@ fn write_run<W: Sink, N: Sink>(
     write_permutation(alloc, spec, entries, engine.history(), out, notes)
 }
 
-/// A run of the permutation as it was closed. It is refused for the faults of its threads and for want of memory, never as
-/// `ScheduleBroken`, and for no refusal of the engine where its blocks and steps are there.
+/// A run of the permutation as it was closed. It is refused for the faults of its threads, each told as it is, and for want of memory,
+/// never as `ScheduleBroken`, and for no refusal of the engine where its blocks and steps are there.
 fn closed_of<'a, 't>(
     spec: &Spec<'_>,
     blocks: &[Block<'_>],
@@ -112,6 +113,7 @@ fn closed_of<'a, 't>(
     ensures regular { IfOk result (λ c. IsRegular (spec_view spec.now) (blocks_of blocks.now) (map entry_view entries.now) c.state.history) }
     ensures unbroken { result ≢ Err RunFault.ScheduleBroken }
     ensures faults { IfErr result (λ e. is_of_run e ≡ true) }
+    ensures exact { IfSome run.entry (λ run. IfErr run (λ fault. result ≡ Err (thread_fault fault))) }
     ensures sure { HasItsBlocks (spec_view spec.now) (blocks_of blocks.now) → HasItsSteps (spec_view spec.now) (map entry_view entries.now) → IfErr result (λ e. is_of_threads e ≡ true) }
 {
     let _ = spec.sessions.len();
@@ -125,7 +127,7 @@ fn closed_of<'a, 't>(
     Ok(closed)
 }
 
-/// Writes the report of a run, where it was closed.
+/// Writes the report of a run, where it was closed; else tells why it wasn't.
 pub fn tell_permutation<W: Sink, N: Sink>(
     alloc: Global,
     spec: &Spec<'_>,
@@ -145,6 +147,7 @@ pub fn tell_permutation<W: Sink, N: Sink>(
     ensures unbroken { result ≢ Err RunFault.ScheduleBroken }
     ensures write { IsErrOf result RunFault.Write → (W.failed out.new || N.failed notes.new) ≡ true }
     ensures kinds { IfErr result (λ e. is_of_one e ≡ true) }
+    ensures exact { IfSome run.entry (λ run. IfErr run (λ fault. result ≡ Err (thread_fault fault))) }
     ensures sure { IsStoppedSo (spec_view spec.now) (blocks_of blocks.now) (map entry_view entries.now) result }
 {
     let closed = closed_of(spec, blocks, entries, run)?;
