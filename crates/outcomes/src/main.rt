@@ -45,12 +45,22 @@ fn read_and_answer<R: Runtime + AllocGlobal>(
     answer
 }
 
-/// Prints what can happen, and gives the exit status.
+/// Prints what can happen.
+fn print_answer<R: Runtime>(rt: &R, answer: &Answer) -> io::Result<()> {
+    let text = answer.text.as_str();
+    print!(rt; "{text}")
+}
+
+/// Tells on the errors why nothing is said of what can happen.
+fn tell_fault<R: Runtime>(rt: &R, fault: &RunFault) -> io::Result<()> {
+    eprintln!(rt; "outcomes: {fault}")
+}
+
+/// Says what can happen, and gives the exit status.
 fn answer<R: Runtime + AllocGlobal>(rt: &R, request: Request, is_read: bool) -> io::Result<u8> {
     match read_and_answer(rt, request, is_read) {
         Ok(answer) => {
-            let text = answer.text.as_str();
-            print!(rt; "{text}")?;
+            print_answer(rt, &answer)?;
             Ok(if request.serial && !answer.serial {
                 NOT_SERIAL
             } else {
@@ -58,16 +68,21 @@ fn answer<R: Runtime + AllocGlobal>(rt: &R, request: Request, is_read: bool) -> 
             })
         }
         Err(fault) => {
-            eprintln!(rt; "outcomes: {fault}")?;
+            tell_fault(rt, &fault)?;
             Ok(fault.status())
         }
     }
 }
 
+/// What the words of the command line ask for; none where they are no call.
+fn request_in<R: Runtime + AllocGlobal>(rt: &R) -> io::Result<Option<Request>> {
+    let words: Vec<String> = env::args(rt)?.collect(rt.alloc())?;
+    Ok(request_of(&words))
+}
+
 /// Does what the words of the command line ask for, and gives the exit status.
 fn run<R: Runtime + AllocGlobal>(rt: &R, is_read: bool) -> io::Result<u8> {
-    let words: Vec<String> = env::args(rt)?.collect(rt.alloc())?;
-    match request_of(&words) {
+    match request_in(rt)? {
         Some(request) if request.help => {
             println!(rt; "{USAGE}")?;
             Ok(0)
@@ -93,7 +108,7 @@ fn main(rt: HostRuntime) -> ExitCode {
         Ok(status) => ExitCode::from(status),
         Err(fault) => {
             let fault = fault_of(fault.kind());
-            let _ = eprintln!(rt; "outcomes: {fault}");
+            let _ = tell_fault(&rt, &fault);
             ExitCode::from(fault.status())
         }
     }
