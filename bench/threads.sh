@@ -3,7 +3,7 @@
 # It may map as much as the run of one session needs, and 16 MiB more, in which the stacks of 60 sessions have no room: it has to end with the line of R10 and status 3, with the first line
 # alone printed. Where it may map as much as it likes the same file has to run.
 # Then one start alone is refused, on a file of 1,680 permutations. The first one is that of a thread which would run some of them beside the calling one, where there are several processors:
-# without it the text has to be whole. With another one refused it has to be whole too, or the run ends with R10 and status 3 behind a front of it.
+# without it the text has to be whole. With another one refused it has to be whole too, or the run ends with R10 and status 3 behind a prefix of it.
 set -eu
 here=$(cd "$(dirname "$0")/.." && pwd)
 program=${1:-$here/crates/isolationtester/out/isolationtester}
@@ -63,4 +63,4 @@ for number in $(seq 40); do
     ended=$((ended + 1))
   fi
 done
-echo "without the first thread 1,680 permutations run all the same; of 40 starts refused one by one $ended end the run as R10, behind a front of its text"
+echo "without the first thread 1,680 permutations run all the same; of 40 starts refused one by one $ended end the run as R10, behind a prefix of its text"

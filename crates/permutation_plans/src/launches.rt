@@ -149,7 +149,7 @@ impl Launches {
         PlanProgress::new(alloc, entries, self.setups.len())
     }
 
-    /// The next order, by what was kept of a front of the history; the same is then kept of the whole history.
+    /// The next order, by what was kept of a prefix of the history; the same is then kept of the whole history.
     pub fn go_on(
         &self,
         alloc: Global,

@@ -21,7 +21,7 @@ use Rattle.spec_files.specs.declared.fault.RunFault.TheVariants as faults
 use Rattle.program_words.specs.declared.options.Options.{Options}
 use Rattle.program_words.specs.Options.{option_status}
 
--- a text went out, or a front of it where the sink has failed
+-- a text went out, or a prefix of it where the sink has failed
 pub record Took (failed : Bool) (old new : Option (List ℕ)) (text : List ℕ) : Type 0 where
   pub front : PutsFront old new text
   pub whole : OnFalse failed (Appends old new text)
@@ -48,7 +48,7 @@ pub data IsRefused (kinds : Kinds) (out_failed : Bool) (out_old out_new : Option
 
 -- ---- words that give options
 
--- the permutations of the file were listed: their lines go to the output, wherever that ends a front of them, and nothing to the errors
+-- the permutations of the file were listed: their lines go to the output, wherever that ends a prefix of them, and nothing to the errors
 pub record ListsTold (file : List ℕ) (limit : ℕ) (old new notes_old notes_new : Option (List ℕ)) (answer : Result (Unit {0}) RunFault) : Type 0 where
   pub lists : IsTrue (has_ended answer) → (said : Said) × FileLists file limit (Ok said) × IsListed old new answer said
   pub refused : IfErr answer (λ e. is_refusal e ≡ true → FileLists file limit (Err e))

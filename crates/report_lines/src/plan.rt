@@ -194,7 +194,7 @@ impl<'a> PlannedRun<'a> {
         self.go_on(alloc, &mut progress)
     }
 
-    /// The next order, by what was kept of a front of the history, such as nothing; the same is then kept of the whole.
+    /// The next order, by what was kept of a prefix of the history, such as nothing; the same is then kept of the whole.
     /// Fails only where memory is refused.
     pub fn go_on(&self, alloc: Global, progress: &mut PlanProgress) -> Result<Order, AllocError>
         requires follows { KeepsFront self.now.run progress.old }

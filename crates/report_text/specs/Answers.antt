@@ -45,7 +45,7 @@ IsNotMemory (Err faults.SetupWaits) = Unit {0}
 IsNotMemory (Err faults.Write) = Unit {0}
 IsNotMemory (Err faults.Memory) = ⊥
 
--- this text went out; where a sink failed or memory was refused, a front of it
+-- this text went out; where a sink failed or memory was refused, a prefix of it
 abbrev pub Puts : {A : Type 0} → Option (List ℕ) → Option (List ℕ) → List ℕ → Result A ReportFault → Type 0
 Puts old new text (Ok a) = Appends old new text
 Puts old new text (Err (faults.SetupFailed why)) = Appends old new text

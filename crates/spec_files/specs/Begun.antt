@@ -19,7 +19,7 @@ use Rattle.spec_files.specs.FreeRuns.{free_text}
 abbrev pub Untouched : {W N : Type 0} → W → W → N → N → Type 0
 Untouched out_old out_new notes_old notes_new = (out_new ≡ out_old) × (notes_new ≡ notes_old)
 
--- nothing went out, or a front of what the file lists
+-- nothing went out, or a prefix of what the file lists
 pub data ListBegun (bytes : List ℕ) (limit : ℕ) (old new : Option (List ℕ)) : Type 0 where
   nothing : new ≡ old → ListBegun bytes limit old new
   begun : (said : Said) → FileLists bytes limit (Ok said) → PutsFront old new said.text → ListBegun bytes limit old new
@@ -29,12 +29,12 @@ pub record PutsWhole (old new : Option (List ℕ)) (text : List ℕ) : Type 0 wh
   pub more : List ℕ
   pub went_out : Appends old new (text ++ more)
 
--- notes come behind their text: nothing was noted, or a front of the notes on a text that went out whole
+-- notes come behind their text: nothing was noted, or a prefix of the notes on a text that went out whole
 pub data NotesBehind (MaySay : List ℕ → List ℕ → Type 0) (out_old out_new notes_old notes_new : Option (List ℕ)) : Type 0 where
   unnoted : notes_new ≡ notes_old → NotesBehind MaySay out_old out_new notes_old notes_new
   noted : (text notes : List ℕ) → MaySay text notes → PutsWhole out_old out_new text → PutsFront notes_old notes_new notes → NotesBehind MaySay out_old out_new notes_old notes_new
 
--- nothing went out, or a front of a text that may be said, and of its notes, which come behind their text
+-- nothing went out, or a prefix of a text that may be said, and of its notes, which come behind their text
 pub data Begun (MaySay : List ℕ → List ℕ → Type 0) (out_old out_new notes_old notes_new : Option (List ℕ)) : Type 0 where
   none : out_new ≡ out_old → notes_new ≡ notes_old → Begun MaySay out_old out_new notes_old notes_new
   fronts : (text notes : List ℕ) → MaySay text notes → PutsFront out_old out_new text → PutsFront notes_old notes_new notes

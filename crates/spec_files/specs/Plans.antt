@@ -18,6 +18,6 @@ pub record Planning : Type 0 where
 abbrev pub order_after : Planning → List HistItem → Order
 order_after plan items = due_after plan.launches plan.entries items
 
--- what is kept is of a front of these items
+-- what is kept is of a prefix of these items
 abbrev pub IsFollowing : Planning → List HistItem → Type 0
 IsFollowing plan items = KeepsFront (run_of plan.launches plan.entries items) plan.progress

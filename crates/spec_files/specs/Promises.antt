@@ -24,7 +24,7 @@ module _ {S W N : Type 0} (source : Source S) (sink : Sink W) (noted : Sink N) (
     -- where the run comes to an end, be it an early one, what the file says was put, and nothing else, and the answer is that end
     pub told : IfFile (source.left input_old) (λ file. IsTrue (has_ended result) → (said : Said) × FileSays file limit (Ok said)
         × IsTold (sink.put_so_far out_old) (sink.put_so_far out_new) (noted.put_so_far notes_old) (noted.put_so_far notes_new) result said)
-    -- however it ends, a front of what the file may say went out, and of its notes behind their text, or nothing
+    -- however it ends, a prefix of what the file may say went out, and of its notes behind their text, or nothing
     pub begun : IfFile (source.left input_old) (λ file. Begun (FileMaySay file limit)
         (sink.put_so_far out_old) (sink.put_so_far out_new) (noted.put_so_far notes_old) (noted.put_so_far notes_new))
     -- where the threads of a permutation come to no end, the permutations before it were put
@@ -56,7 +56,7 @@ module _ {S W N : Type 0} (source : Source S) (sink : Sink W) (noted : Sink N) (
     pub refused : IfFile (source.left input_old) (λ file. IfErr result (λ e. is_refusal e ≡ true → FileIs file (Err e)))
     -- a file is refused before anything is put
     pub untouched : IfErr result (λ e. is_refusal e ≡ true → Untouched out_old out_new notes_old notes_new)
-    -- however it ends, a front of such a text went out, and of its notes behind their text, or nothing
+    -- however it ends, a prefix of such a text went out, and of its notes behind their text, or nothing
     pub begun : IfFile (source.left input_old) (λ file. Begun (FileSaysFreely file)
         (sink.put_so_far out_old) (sink.put_so_far out_new) (noted.put_so_far notes_old) (noted.put_so_far notes_new))
     -- want of memory is told as such, and as no thread's fault

@@ -99,7 +99,7 @@ fn is_whole(alloc: Global, set: &ResultSet<'_>, text: &[u8]) -> bool {
     write_table(alloc, &mut out, set).is_ok() && out.text() == text
 }
 
-/// Whether the table is the text, and a front of it where memory was refused first.
+/// Whether the table is the text, and a prefix of it where memory was refused first.
 fn is_table(alloc: Global, set: &ResultSet<'_>, text: &[u8]) -> bool {
     let mut out = Takes::new(9);
     match write_table(alloc, &mut out, set) {

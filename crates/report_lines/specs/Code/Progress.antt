@@ -1,4 +1,4 @@
--- What is kept of a permutation and a front of its history.
+-- What is kept of a permutation and a prefix of its history.
 use Rattle.std.specs.Prelude.{◌≡◌, ℕ, ◌+◌, ◌-◌, ◌≤◌, List, length, map, take}
 use Rattle.report_lines.specs.declared.progress.PlanProgress.{PlanProgress}
 use Rattle.session_machine.specs.declared.reply.HistItem.{HistItem}
@@ -25,7 +25,7 @@ pub record Keeps (c : PermutationRun) (p : PlanProgress) : Type 0 where
 abbrev pub first_items : PermutationRun → ℕ → PermutationRun
 first_items c n = record { entries = c.entries; items = take n c.items; setups = c.setups }
 
--- what is kept is of a front of this history
+-- what is kept is of a prefix of this history
 pub record KeepsFront (c : PermutationRun) (p : PlanProgress) : Type 0 where
   pub few : p.seen ≤ length c.items
   pub kept : Keeps (first_items c p.seen) p

@@ -1,4 +1,4 @@
--- That what a plan keeps of a front of a history it keeps of each history that goes on from it: what a `Driver` has to say of itself.
+-- That what a plan keeps of a prefix of a history it keeps of each history that goes on from it: what a `Driver` has to say of itself.
 use Rattle.std.proofs.Common.{List, length-append, sym, subst, arith}
 use Rattle.std.proofs.lemmas.List.{take-append-le}
 use Rattle.session_machine.specs.declared.reply.HistItem.{HistItem}
