@@ -15,13 +15,24 @@ use std::alloc::{AllocError, Global};
 use std::marker::Model;
 
 /// All writes in the order made, and beside them which belong to one row, one table and one transaction.
-#[derive(Drop)]
 pub struct ChainStore {
     alloc: Global,
     list: ListStore,
     links: Links,
     /// The links are not kept any more, and the list is searched: since a write outside of what is meant, or where their memory was refused.
     plain: bool,
+}
+
+/// Written out, so that a crate that drops one calls this, and needn't prove anew how each of its lists is dropped.
+impl Drop for ChainStore {
+    fn drop(self) {
+        let ChainStore {
+            alloc: _,
+            list: _,
+            links: _,
+            plain: _,
+        } = self;
+    }
 }
 
 impl Model for ChainStore {

@@ -15,13 +15,24 @@ use std::alloc::{AllocError, Global};
 use std::marker::Model;
 
 /// The plain store: a list of all writes, searched anew at each question, and how many transactions have committed.
-#[derive(Drop)]
 pub struct ListStore {
     log: Vec<Write>,
     fates: Vec<Fate>,
     commits: u64,
     /// The transactions that are open.
     open_txs: Vec<TxId>,
+}
+
+/// Written out, so that a crate that drops one calls this, and needn't prove anew how each of its writes is dropped.
+impl Drop for ListStore {
+    fn drop(self) {
+        let ListStore {
+            log: _,
+            fates: _,
+            commits: _,
+            open_txs: _,
+        } = self;
+    }
 }
 
 impl Model for ListStore {

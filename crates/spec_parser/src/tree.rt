@@ -39,10 +39,21 @@ pub struct Entry {
     pub markers: Vec<Marker>,
 }
 
-#[derive(Drop)]
 pub struct Spec<'a> {
     pub setups: Vec<Part<'a>>,
     pub teardown: Option<Part<'a>>,
     pub sessions: Vec<SessionPart<'a>>,
     pub perms: Vec<Vec<Entry>>,
+}
+
+/// Written out, so that a crate that drops one calls this, and needn't prove anew how each of its parts is dropped.
+impl<'a> Drop for Spec<'a> {
+    fn drop(self) {
+        let Spec {
+            setups: _,
+            teardown: _,
+            sessions: _,
+            perms: _,
+        } = self;
+    }
 }

@@ -19,10 +19,16 @@ pub enum Role {
 }
 
 /// The statements of a block of SQL text.
-#[derive(Drop)]
 pub struct Block<'a> {
     role: Role,
     stmts: Vec<Stmt<'a>>,
+}
+
+/// Written out, so that a crate that drops one calls this, and needn't prove anew how its statements are dropped.
+impl<'a> Drop for Block<'a> {
+    fn drop(self) {
+        let Block { role: _, stmts: _ } = self;
+    }
 }
 
 impl<'a> Model for Block<'a> {
