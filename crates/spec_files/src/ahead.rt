@@ -12,6 +12,7 @@ ghost use Rattle.spec_files.specs.Inner.Drafts.{lists_of, to_come};
 
 use crate::draft::Draft;
 use crate::file::SpecFile;
+use crate::load::is_busy;
 use crate::side_by_side::{Lent, side_by_side};
 use permutation_lists::Permutations;
 use spec_parser::{Entry, Spec};
@@ -20,10 +21,13 @@ use std::collections::VecDeque;
 use std::sync::Wait;
 use std::thread::{Threads, available_parallelism};
 
-/// How many crews run at a time, at most, and how many threads they have together, where it is more than one: so many stacks
-/// of ended threads stay with the process.
-const MOST_AT_A_TIME: usize = 4;
+/// How many crews run at a time, at most.
+const MOST_FREE: usize = 4;
 
+/// How many where other programs use the processors too: of more crews some thread has something to do each time a processor is theirs.
+const MOST_BUSY: usize = 10;
+
+/// How many threads crews have together, where it is more than one: so many stacks of ended threads stay with the process.
 const MOST_THREADS: usize = 40;
 
 /// How many permutations one crew serves, at most: each thread that is started takes time, and what wakes one serves many.
@@ -40,37 +44,36 @@ fn processors<R: Threads>(rt: &R) -> usize {
     }
 }
 
-/// How many crews of so many sessions run at a time: one for each processor; each has a thread for each session, and the one it
+/// How many crews of so many sessions run at a time, where so many are wanted: each has a thread for each session, and the one it
 /// runs in.
-fn at_a_time(sessions: usize, processors: usize) -> usize
-    ensures few { (0 < result) × (result ≤ 4) }
+fn at_a_time(sessions: usize, wanted: usize) -> usize
+    ensures few { (0 < result) × (result ≤ 10) }
     ensures threads { (result ≡ 1) ⊎ (result * (sessions + 1) ≤ 40) }
 {
     let each = sessions.saturating_add(1);
     let fit = MOST_THREADS / each;
-    fit.min(processors).clamp(1, MOST_AT_A_TIME)
+    fit.min(wanted).clamp(1, MOST_BUSY)
 }
 
-/// How many crews run at a time, where it isn't known yet; one where it can serve all of so many permutations.
-fn crews_for<R: Threads>(
-    rt: &R,
-    known: Option<usize>,
-    permutations: usize,
-    sessions: usize,
-) -> usize {
-    match known {
-        Some(crews) => crews,
-        None if permutations <= LEAST_TOGETHER => 1,
-        None => at_a_time(sessions, processors(rt)),
+/// How many crews run the permutations of a spec at a time: one for each processor, or more where others use the processors too; one
+/// where it can serve all permutation lines, and nobody then asks for the processors.
+fn crews_for<R: Threads + Wait>(rt: &R, alloc: Global, spec: &Spec<'_>) -> usize {
+    if !spec.perms.is_empty() && spec.perms.len() <= LEAST_TOGETHER {
+        return 1;
     }
+    let wanted = if is_busy(rt, alloc) {
+        MOST_BUSY
+    } else {
+        processors(rt).min(MOST_FREE)
+    };
+    at_a_time(spec.sessions.len(), wanted)
 }
 
-/// How many permutations run ahead of their turn, at most, by so many crews, or before it is known by how many.
-fn most_ahead(crews: Option<usize>) -> u64
-    ensures { (0 < result) × (result ≤ 256) }
+/// How many permutations run ahead of their turn by so many crews, at most.
+fn most_ahead(crews: usize) -> u64
+    ensures { (0 < result) × (result ≤ 640) }
 {
-    let crews = crews.unwrap_or(1).clamp(1, MOST_AT_A_TIME);
-    crews as u64 * MOST_TOGETHER as u64
+    crews.clamp(1, MOST_BUSY) as u64 * MOST_TOGETHER as u64
 }
 
 /// How many of so many permutations one crew serves: they are dealt out evenly, few of them to fewer crews.
@@ -200,11 +203,13 @@ impl<'s> Ahead<'s> {
         if !self.drafts.is_empty() {
             return Ok(());
         }
-        let sessions = file.spec.sessions.len();
-        let most = self.left.min(most_ahead(self.crews));
-        let taken = take_next(alloc, &mut self.behind, most)?;
-        let crews = crews_for(rt, self.crews, taken.len(), sessions);
+        let crews = match self.crews {
+            Some(crews) => crews,
+            None => crews_for(rt, alloc, &file.spec),
+        };
         self.crews = Some(crews);
+        let most = self.left.min(most_ahead(crews));
+        let taken = take_next(alloc, &mut self.behind, most)?;
         let together = together(taken.len(), crews);
         self.drafts = drafts_of(rt, alloc, file, run, taken, together)?.into();
         Ok(())

@@ -13,6 +13,7 @@ mod free_text;
 mod freely;
 pub mod laws;
 mod list;
+mod load;
 mod plan;
 mod report;
 mod run;

@@ -1,0 +1,38 @@
+//! Whether other programs use all processors.
+
+use session_seats::start_thread;
+use std::alloc::Global;
+use std::hint::spin_loop;
+use std::sync::Wait;
+use std::sync::atomic::{AtomicBool, Ordering};
+use std::thread;
+use std::thread::Threads;
+
+/// How often it is looked at whether a thread has begun: for some 100 to 500 microseconds. On a processor that is free it begins
+/// within 20 to 70, and where others use all of them after milliseconds.
+const LOOKS: usize = 10_000;
+
+/// Whether a thread that was just started, which says so when it begins, hasn't begun after a while.
+fn begins_late(begun: &AtomicBool) -> bool {
+    for _ in 0..LOOKS {
+        if begun.load(Ordering::SeqCst) {
+            return false;
+        }
+        spin_loop();
+    }
+    true
+}
+
+/// Whether a thread that is started waits for a processor, as where other programs use all of them; not where none can be started.
+pub fn is_busy<R: Threads + Wait>(rt: &R, alloc: Global) -> bool {
+    let begun = AtomicBool::new(false);
+    let begun = &begun;
+    thread::scope(thread::scope_env(), rt, move |scope| -> bool {
+        let mut started = Vec::new(alloc);
+        let work = move || begun.store(true, Ordering::SeqCst);
+        match start_thread(scope, &mut started, work) {
+            Ok(()) => begins_late(begun),
+            Err(_) => false,
+        }
+    })
+}
