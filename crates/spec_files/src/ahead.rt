@@ -55,16 +55,17 @@ fn at_a_time(sessions: usize, wanted: usize) -> usize
     fit.min(wanted).clamp(1, MOST_BUSY)
 }
 
-/// How many crews run the permutations of a spec at a time: one for each processor, or more where others use the processors too; one
-/// where it can serve all permutation lines, and nobody then asks for the processors.
+/// How many crews run the permutations of a spec at a time: one for each processor, or more where there are several that others use
+/// too; one where it can serve all permutation lines, and nobody then asks for the processors.
 fn crews_for<R: Threads + Wait>(rt: &R, alloc: Global, spec: &Spec<'_>) -> usize {
     if !spec.perms.is_empty() && spec.perms.len() <= LEAST_TOGETHER {
         return 1;
     }
-    let wanted = if is_busy(rt, alloc) {
+    let processors = processors(rt);
+    let wanted = if processors > 1 && is_busy(rt, alloc) {
         MOST_BUSY
     } else {
-        processors(rt).min(MOST_FREE)
+        processors.min(MOST_FREE)
     };
     at_a_time(spec.sessions.len(), wanted)
 }
