@@ -1,5 +1,5 @@
 #!/usr/bin/env python3
-"""Where a crate's code tells want of memory without an allocator's refusal: no clause tells such a want from a real one, so each such line stands in tools/wants.txt.
+"""Where a crate's code tells want of memory, or of a thread, by itself: no clause tells such a want from one that an allocator or the start of a thread told, so each such line stands in tools/wants.txt.
 
     tools/wants.py           says where the text differs from the list; the status is 1 where it does
     tools/wants.py --write   writes the list
@@ -10,20 +10,20 @@ import sys
 
 TOP = os.path.dirname(os.path.dirname(os.path.realpath(__file__)))
 LIST = f"{TOP}/tools/wants.txt"
-HEAD = """# Lines of code that tell want of memory by themselves, or hand another call's want on: what an allocator refused is handed on by `?`. Written by tools/wants.py --write; ./check compares it
-# with the text.
+HEAD = """# Lines of code that tell want of memory or of a thread by themselves, or hand another call's want on: what an allocator refused is handed on by `?`. Written by tools/wants.py --write; ./check
+# compares it with the text.
 """
 # Crates of tests, and programs around the library, tell what they like.
 LEFT_OUT = re.compile(r"_tests$|^(test_devices|examples|timings|timeline|isolationtester)$")
 # A value, and no type: behind one of these, and not in front of a pattern's arrow.
-MADE = re.compile(r"(?:^|[(|=>{;]\s*|\breturn )(?:\w+::)*(?:AllocError|(?<=::)Memory)\b(?!\)*\s*(?:=>|\||if ))")
+MADE = re.compile(r"(?:^|[(|=>{;]\s*|\breturn )(?:\w+::)*(?:AllocError|(?<=::)(?:Memory|ThreadRefused))\b(?!\)*\s*(?:=>|\||if ))")
 SKIPPED = re.compile(r"^(use |pub use |ghost |ensures |requires |//|#|impl |where )")
 # What the allocator refused is told as it was.
 FROM = re.compile(r"fn from\(_\w*: Alloc")
 
 
 def made_in(text):
-    """Returns the lines of a file's text that tell want of memory by themselves."""
+    """Returns the lines of a file's text that tell want of memory or of a thread by themselves."""
     lines, behind = [], 0
     for line in (it.strip() for it in text.split("\n")):
         behind = 3 if FROM.search(line) else behind - 1
@@ -66,7 +66,7 @@ def differing():
         if line in gone:
             gone.remove(line)
     for line in new:
-        print(f"want of memory is told where no allocator refused it, and tools/wants.txt lacks the line: {line}")
+        print(f"a want is told where nothing was refused, and tools/wants.txt lacks the line: {line}")
     for line in gone:
         print(f"tools/wants.txt has a line that isn't there: {line}")
     return len(new) + len(gone)
