@@ -94,6 +94,7 @@ fn a_shut_gate_ends_a_run_of_a_file(rt: HostRuntime) -> Result<(), Fail> {
     holds(&rt, gate.asked.load(Ordering::SeqCst) == 3, "asked 3 times");
     let free = run_freely(&rt, rt.alloc(), ONE_STEP, &gate)?;
     ends_at_the_gate(&rt, &free, "");
+    holds(&rt, gate.asked.load(Ordering::SeqCst) == 6, "asked 3 more");
     Ok(())
 }
 
