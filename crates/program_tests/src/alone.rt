@@ -6,11 +6,12 @@ use permutations::{RunFault, read_file, run_spec};
 use plain_runs::{print_alone, run_alone};
 use session_machine::EngineFault;
 use session_threads::{OpenGate, ThreadFault};
-use std::alloc::Global;
+use std::alloc::{AllocError, Global};
 use std::process::Abort;
 use std::sync::Wait;
 use std::test::Fail;
 use std::thread::Threads;
+use test_devices::Takes;
 
 /// Two sessions that wait for each other's rows in some of their interleavings, and close a cycle in others.
 const DEADLOCKS: &str =
@@ -124,6 +125,45 @@ fn a_refusal_of_the_engine_is_told_as_it_is(rt: HostRuntime) -> Result<(), Fail>
     for spec in [KEYS, "session s step a { } permutation a"] {
         let fault = refused_without_blocks(rt.alloc(), spec)?;
         holds(&rt, fault == Some(EngineFault::BlockNotAllowed), spec);
+    }
+    Ok(())
+}
+
+/// A file, how many of its permutations may run, how many puts its output takes, and the fault in which its run on one thread ends.
+type Ending = (&'static str, u64, usize, &'static str);
+
+const ONE_STEP: &str = "session s step a { }";
+
+const WAITS_IN_A_SETUP: &str =
+    "setup { CREATE TABLE t (x int); INSERT INTO t VALUES (1); } session s setup { BEGIN; UPDATE t SET x = 2; } step a { }
+session u setup { UPDATE t SET x = 3; } step b { }";
+
+const LEFT_OUT: &str = "session s step a { TRUNCATE t; }";
+
+const ENDINGS: [Ending; 4] = [
+    (ONE_STEP, 0, 9, "R9 TooManyPermutations"),
+    (ONE_STEP, 9, 0, "R2 Write"),
+    (WAITS_IN_A_SETUP, 9, 9, "R7 SetupWaits"),
+    (LEFT_OUT, 9, 9, "Q2 LeftOut at byte 19"),
+];
+
+/// The fault in which the run on one thread ends, as it is told; nothing where it ends well.
+fn told_of_the_end(alloc: Global, ending: &Ending) -> Result<String, AllocError> {
+    let (spec, most, puts, _) = *ending;
+    let mut out = Takes::new(puts);
+    let mut notes = Takes::new(puts);
+    match print_alone(alloc, spec.as_bytes(), &mut out, &mut notes, most) {
+        Ok(()) => Ok(String::new(alloc)),
+        Err(RunFault::Memory) => Err(AllocError),
+        Err(fault) => format!(in alloc; "{fault}"),
+    }
+}
+
+#[test]
+fn one_thread_ends_in_the_fault_of_its_file(rt: HostRuntime) -> Result<(), AllocError> {
+    for ending in ENDINGS {
+        let told = told_of_the_end(rt.alloc(), &ending)?;
+        holds(&rt, told.as_str() == ending.3, ending.3);
     }
     Ok(())
 }
