@@ -11,7 +11,7 @@ pub trait Drives<E: Engine> {
     // what it orders after a history
     ghost order_after: { Self → List Item → Given };
 
-    // what it keeps fits a history: it is of a front of it
+    // what it keeps fits a history: it is of a prefix of it
     ghost follows: { Self → List Item → Type 0 };
 
     /// The next order. It is asked for where the engine is quiet, of a history that goes on from the one before. What it

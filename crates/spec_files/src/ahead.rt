@@ -21,10 +21,11 @@ use std::collections::VecDeque;
 use std::sync::Wait;
 use std::thread::{Threads, available_parallelism};
 
-/// How many crews run at a time, at most.
+/// How many crews run at a time, at most, one for each processor.
 const MOST_FREE: usize = 4;
 
-/// How many where other programs use the processors too: of more crews some thread has something to do each time a processor is theirs.
+/// How many run where other programs use all processors: each thread that is woken then waits for one, and those of other crews run
+/// meanwhile.
 const MOST_BUSY: usize = 10;
 
 /// How many threads crews have together, where it is more than one: so many stacks of ended threads stay with the process.

@@ -8,11 +8,11 @@ use std::sync::atomic::{AtomicBool, Ordering};
 use std::thread;
 use std::thread::Threads;
 
-/// How often it is looked at whether a thread has begun: for some 100 to 500 microseconds. On a processor that is free it begins
-/// within 20 to 70, and where others use all of them after milliseconds.
+/// How often the calling thread looks whether another has begun, which takes some 100 to 500 microseconds. A thread begins within 20
+/// to 70 where a processor is free, and after milliseconds where other programs use them all.
 const LOOKS: usize = 10_000;
 
-/// Whether a thread that was just started, which says so when it begins, hasn't begun after a while.
+/// Whether a thread that was just started, and that sets the flag when it begins, hasn't begun after a while.
 fn begins_late(begun: &AtomicBool) -> bool {
     for _ in 0..LOOKS {
         if begun.load(Ordering::SeqCst) {
@@ -23,7 +23,8 @@ fn begins_late(begun: &AtomicBool) -> bool {
     true
 }
 
-/// Whether a thread that is started waits for a processor, as where other programs use all of them; not where none can be started.
+/// Whether a thread that is started waits for a processor, as where other programs use them all; false where none can be started.
+/// No clause says when: nothing that is printed depends on it.
 pub fn is_busy<R: Threads + Wait>(rt: &R, alloc: Global) -> bool {
     let begun = AtomicBool::new(false);
     let begun = &begun;
