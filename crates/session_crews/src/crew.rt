@@ -6,12 +6,16 @@ use crate::driven::Drives;
 use crate::shared::{Hand, Shared};
 use iso_lexer::MOST_SESSIONS;
 use session_machine::{Engine, EngineFault};
-use session_seats::{Board, Gate, Orderings, SeatAt, ThreadFault, admitted, bit_of, tell};
+use session_seats::{
+    Board, Gate, Orderings, SeatAt, ThreadFault, admitted, bit_of, make_room, tell,
+};
+use std::alloc::Global;
 use std::sync::{Mutex, Wait};
 
 /// What a session's thread has: the session's seat in each run.
 #[derive(Drop)]
 pub struct Desk<'s, S> {
+    pub alloc: Global,
     pub session: u32,
     pub seats: &'s mut [S],
 }
@@ -182,7 +186,12 @@ pub fn work<E: Engine, S: SeatAt<E>, O: Orderings, D: Drives<E>, G: Gate, R: Wai
     gate: &G,
     desk: Desk<'_, S>,
 ) {
-    let Desk { session, seats } = desk;
+    let Desk {
+        alloc,
+        session,
+        seats,
+    } = desk;
+    make_room(alloc, runs.len());
     let mut hands = [0; MOST_SESSIONS + 1];
     let mut looks = board.take(rt, session);
     for _ in rt.forever() {

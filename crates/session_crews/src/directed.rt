@@ -75,6 +75,7 @@ fn start<
 >(
     scope: &'s Scope<'s, &'e ()>,
     rt: &'s R,
+    alloc: Global,
     runs: &'s [Mutex<Shared<E, O, D>>],
     board: &'s Board,
     gate: &'s G,
@@ -86,6 +87,7 @@ fn start<
     for column in columns.iter_mut() {
         session = session.wrapping_add(1);
         let desk = Desk {
+            alloc,
             session,
             seats: &mut **column,
         };
@@ -116,8 +118,9 @@ fn serve_in<
 ) {
     let mut crew = Vec::new(alloc);
     if let Some((control, others)) = columns.split_first_mut() {
-        start(scope, rt, runs, board, gate, others, &mut crew);
+        start(scope, rt, alloc, runs, board, gate, others, &mut crew);
         let desk = Desk {
+            alloc,
             session: 0,
             seats: &mut **control,
         };

@@ -15,9 +15,10 @@ pub const MOST_RUNS: usize = 64;
 /// How often a thread looks at its desk before it sleeps.
 const FEW_LOOKS: usize = 20;
 
-/// How often where it looks for a while, in a crew of one run: it takes about as long to be woken. In a crew of more runs a thread
-/// waits longer, for something to be done in several of them.
-const MANY_LOOKS: usize = 1500;
+/// How often where it looks for a while, in a crew of one run: that takes some 30 to 400 microseconds, by how long the processor
+/// rests at each look, and a thread is woken in less. In a crew of more runs a thread waits longer, for something to be done in
+/// several of them.
+const MANY_LOOKS: usize = 6000;
 
 /// How often in a row a thread doesn't look for a while, at most.
 const MOST_DOUBT: usize = 127;

@@ -3,11 +3,22 @@ ghost use Rattle.std.specs.Prelude.{◌≡◌, ◌⊎◌, IfErr};
 
 use crate::fault::ThreadFault;
 use core::thread::{Anything, Stack};
+use std::alloc::Global;
 use std::thread::{JoinHandle, Scope};
 
 /// The stack of a session's thread, in bytes. The deepest expression takes a third of it; with the eight megabytes that a
 /// thread has by default few stacks stay with the process, and most starts of a thread would map one anew.
 pub const THREAD_STACK: usize = 1 << 20;
+
+/// About as much memory as a run takes, in bytes.
+const RUN_ROOM: usize = 32 << 10;
+
+/// Asks for the memory of so many runs and lets it go, untouched, for a thread that begins. The part of the heap that a thread has
+/// to itself then grows once; else the C library has it grow page by page, each time by a call of the kernel for which the threads of
+/// a process wait for each other. Where memory is refused nothing changes.
+pub fn make_room(alloc: Global, runs: usize) {
+    let _ = Vec::<u8>::with_capacity(alloc, runs.saturating_mul(RUN_ROOM));
+}
 
 /// A thread that could not be started: why, and what it was to do.
 #[derive(Drop)]

@@ -13,7 +13,7 @@ mod seat;
 mod seat_at;
 
 pub use board::{Board, MOST_RUNS, bit_of};
-pub use crew::{NotStarted, THREAD_STACK, start_thread};
+pub use crew::{NotStarted, THREAD_STACK, make_room, start_thread};
 pub use fault::ThreadFault;
 pub use fitting::{first_misfit, number_of};
 pub use free::{BlockState, FreePlan, Runner, Tried, block_state, may_release, script_of};

@@ -26,10 +26,10 @@ const MOST_FREE: usize = 4;
 
 /// How many run where other programs use all processors: each thread that is woken then waits for one, and those of other crews run
 /// meanwhile.
-const MOST_BUSY: usize = 10;
+const MOST_BUSY: usize = 16;
 
-/// How many threads crews have together, where it is more than one: so many stacks of ended threads stay with the process.
-const MOST_THREADS: usize = 40;
+/// How many threads crews have together, where it is more than one.
+const MOST_THREADS: usize = 64;
 
 /// How many permutations one crew serves, at most: each thread that is started takes time, and what wakes one serves many.
 const MOST_TOGETHER: usize = 64;
@@ -48,8 +48,8 @@ fn processors<R: Threads>(rt: &R) -> usize {
 /// How many crews of so many sessions run at a time, where so many are wanted: each has a thread for each session, and the one it
 /// runs in.
 fn at_a_time(sessions: usize, wanted: usize) -> usize
-    ensures few { (0 < result) × (result ≤ 10) }
-    ensures threads { (result ≡ 1) ⊎ (result * (sessions + 1) ≤ 40) }
+    ensures few { (0 < result) × (result ≤ 16) }
+    ensures threads { (result ≡ 1) ⊎ (result * (sessions + 1) ≤ 64) }
 {
     let each = sessions.saturating_add(1);
     let fit = MOST_THREADS / each;
@@ -73,7 +73,7 @@ fn crews_for<R: Threads + Wait>(rt: &R, alloc: Global, spec: &Spec<'_>) -> usize
 
 /// How many permutations run ahead of their turn by so many crews, at most.
 fn most_ahead(crews: usize) -> u64
-    ensures { (0 < result) × (result ≤ 640) }
+    ensures { (0 < result) × (result ≤ 1024) }
 {
     crews.clamp(1, MOST_BUSY) as u64 * MOST_TOGETHER as u64
 }

@@ -8,9 +8,9 @@ use std::sync::atomic::{AtomicBool, Ordering};
 use std::thread;
 use std::thread::Threads;
 
-/// How often the calling thread looks whether another has begun, which takes some 100 to 500 microseconds. A thread begins within 20
-/// to 70 where a processor is free, and after milliseconds where other programs use them all.
-const LOOKS: usize = 10_000;
+/// How often the calling thread looks whether another has begun, which takes some 150 to 1,000 microseconds. A thread begins within 20
+/// to 110 where a processor is free, and after milliseconds where other programs use them all.
+const LOOKS: usize = 20_000;
 
 /// Whether a thread that was just started, and that sets the flag when it begins, hasn't begun after a while.
 fn begins_late(begun: &AtomicBool) -> bool {

@@ -6,7 +6,7 @@ ghost use Rattle.spec_files.specs.Inner.Coming.{all_entries, coming_entries, IsC
 
 use crate::draft::Draft;
 use core::thread::Stack;
-use session_seats::THREAD_STACK;
+use session_seats::{THREAD_STACK, make_room};
 use spec_parser::Entry;
 use std::alloc::{AllocError, Global};
 use std::snapshot::Snapshot;
@@ -57,6 +57,7 @@ impl<L: Lent> Coming<L> {
 /// Has permutations run in a thread; where none can be started, in the calling one, so that no refused thread ends a run. It does what is the control session's, so its stack is as a session's thread has it.
 fn begin<'s, 'e: 's, L: Lent + 's, F: Fn(Vec<Vec<Entry>>, Vec<Draft>) -> Vec<Draft> + Sync + 's>(
     scope: &Scope<'s, &'e ()>,
+    alloc: Global,
     lent: &'s L,
     run: &'s F,
     taken: Vec<Vec<Entry>>,
@@ -73,7 +74,10 @@ fn begin<'s, 'e: 's, L: Lent + 's, F: Fn(Vec<Vec<Entry>>, Vec<Draft>) -> Vec<Dra
     let call = move || -> Vec<Draft>
         requires { F.pre run.now taken room }
         ensures { F.post run.entry.now taken room result }
-    { run(taken, room) };
+    {
+        make_room(alloc, taken.len());
+        run(taken, room)
+    };
     let stack = Stack::new().stack_size(THREAD_STACK);
     match stack.spawn_scoped_with(scope, promise, call) {
         Ok(thread) => Coming::Running(thread),
@@ -104,7 +108,7 @@ fn begin_each<
     while taken.len() > together {
         let behind = taken.split_off(together)?;
         let room = Vec::with_capacity(alloc, taken.len())?;
-        coming.push(begin(scope, lent, run, taken, room))?;
+        coming.push(begin(scope, alloc, lent, run, taken, room))?;
         taken = behind;
     }
     let room = Vec::with_capacity(alloc, taken.len())?;

@@ -3,11 +3,11 @@ use Rattle.std.proofs.Math.Nat.{mul-le-mul_right}
 use Rattle.std.proofs.lemmas.Bool.{cases_lt}
 use Rattle.spec_files.proofs.ahead.at_a_time.Goals as goal
 
--- so many at a time, no more than forty hold of them, where it is more than one
-few_threads : (sessions wanted each fit most : ℕ) → each ≡ min (sessions + 1) (2 ^ 64 - 1) → fit ≡ 40 / each → most ≡ max 1 (min (min fit wanted) 10) → (1 < fit) ⊎ (fit ≤ 1) → (most ≡ 1) ⊎ (most * (sessions + 1) ≤ 40)
+-- as many crews as have 64 threads together, or one
+few_threads : (sessions wanted each fit most : ℕ) → each ≡ min (sessions + 1) (2 ^ 64 - 1) → fit ≡ 64 / each → most ≡ max 1 (min (min fit wanted) 16) → (1 < fit) ⊎ (fit ≤ 1) → (most ≡ 1) ⊎ (most * (sessions + 1) ≤ 64)
 few_threads sessions wanted each fit most each_is fit_is most_is (inr one) = inl (omega (arith, most_is, one))
 few_threads sessions wanted each fit most each_is fit_is most_is (inl several) =
-    let all : fit * each ≤ 40 = subst (λ (n : ℕ). n * each ≤ 40) (sym fit_is) (div-mul-le_self 40 each) in
+    let all : fit * each ≤ 64 = subst (λ (n : ℕ). n * each ≤ 64) (sym fit_is) (div-mul-le_self 64 each) in
     let twice : 2 * each ≤ fit * each = mul-le-mul_right each several in
     let same : each ≡ sessions + 1 = omega (arith, each_is, all, twice) in
     let fewer : most ≤ fit = omega (arith, most_is, several) in
@@ -16,4 +16,4 @@ few_threads sessions wanted each fit most each_is fit_is most_is (inl several) =
 pub returns-clause-threads : goal.returns-clause-threads
 returns-clause-threads c =
     let each = c.saturating_add-each.result in
-    few_threads c.args.sessions c.args.wanted each (40 / each) c.clamp.result c.saturating_add-each.ensures refl (search rules) (cases_lt 1 (40 / each))
+    few_threads c.args.sessions c.args.wanted each (64 / each) c.clamp.result c.saturating_add-each.ensures refl (search rules) (cases_lt 1 (64 / each))
