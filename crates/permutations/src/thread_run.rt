@@ -1,6 +1,6 @@
 //! The run of one permutation, with a thread for each session.
 
-ghost use Rattle.std.specs.Prelude.{◌≡◌, ◌≢◌, ◌||◌, [], true, All, Err, length, map, IsTrue, IfErr, IfOk, IfSome, IsErrOf};
+ghost use Rattle.std.specs.Prelude.{◌≡◌, ◌≢◌, ◌||◌, [], true, All, Err, length, map, IsTrue, IfErr, IfNone, IfOk, IfSome, IsErrOf};
 ghost use Rattle.row_versions.specs.Log.{empty_content};
 ghost use Rattle.sql_blocks.specs.Blocks.{blocks_of};
 ghost use Rattle.session_machine.specs.Engine.{is_quiet_in};
@@ -114,6 +114,7 @@ fn closed_of<'a, 't>(
     ensures unbroken { result ≢ Err RunFault.ScheduleBroken }
     ensures faults { IfErr result (λ e. is_of_run e ≡ true) }
     ensures exact { IfSome run.entry (λ run. IfErr run (λ fault. result ≡ Err (thread_fault fault))) }
+    ensures lacking { IfNone run.entry (result ≡ Err RunFault.Memory) }
     ensures sure { HasItsBlocks (spec_view spec.now) (blocks_of blocks.now) → HasItsSteps (spec_view spec.now) (map entry_view entries.now) → IfErr result (λ e. is_of_threads e ≡ true) }
 {
     let _ = spec.sessions.len();

@@ -37,6 +37,37 @@ impl Driver<ListStore> for Twice {
     ghost goes_on = { λ d items more fits. fits };
 }
 
+/// Orders one thing before any event, and another behind them, and counts how often it is asked.
+#[derive(Drop)]
+pub struct Asked<'c> {
+    pub first: Order,
+    pub then: Order,
+    pub asks: &'c AtomicU64,
+}
+
+impl<'c> Driver<ListStore> for Asked<'c> {
+    ghost use Rattle.std.specs.Prelude.{nat_eq, length, if◌then◌else◌};
+
+    ghost order_after = { λ d items. if nat_eq (length items) 0 then d.first else d.then };
+
+    ghost follows = { λ d items. Unit {0} };
+
+    fn next(
+        &mut self,
+        _alloc: Global,
+        engine: &EngineState<'_, '_, ListStore>,
+    ) -> Result<Order, AllocError> {
+        self.asks.fetch_add(1, Ordering::SeqCst);
+        Ok(if engine.history().len() == 0 {
+            self.first
+        } else {
+            self.then
+        })
+    }
+
+    ghost goes_on = { λ d items more fits. fits };
+}
+
 /// Orders one thing before any event, and is refused memory behind them.
 #[derive(Drop)]
 pub struct Starved {

@@ -3,7 +3,7 @@
 use crate::asking::{but_wants, holds};
 use crate::free_runs::blocks;
 use crate::gates::looks;
-use crate::giving::{Behind, Counting, Starved, Twice};
+use crate::giving::{Asked, Behind, Counting, Starved, Twice};
 use crate::signs::session_of;
 use row_versions::ListStore;
 use session_machine::{EngineFault, Order};
@@ -11,6 +11,7 @@ use session_threads::{Closed, FreePlan, Gate, OpenGate, ThreadFault, run_directe
 use sql_parser::Block;
 use std::alloc::Global;
 use std::sync::Wait;
+use std::sync::atomic::{AtomicU64, Ordering};
 use std::test::Fail;
 use std::thread::Threads;
 
@@ -112,6 +113,23 @@ fn a_directed_run_asks_and_tells_each_event_once(rt: HostRuntime) -> Result<(), 
     holds(&rt, fault.is_none(), "the run ends well");
     holds(&rt, gate.asked() == 2, "a launch and a step are asked for");
     holds(&rt, gate.told() == 2, "and told");
+    Ok(())
+}
+
+#[test]
+fn a_driver_is_asked_once_for_each_order(rt: HostRuntime) -> Result<(), Fail> {
+    let alloc = rt.alloc();
+    let blocks = blocks(alloc, 4, &TEXTS)?;
+    let store = ListStore::new(alloc);
+    let asks = AtomicU64::new(0);
+    let driver = Asked {
+        first: QUERY,
+        then: Order::Stop,
+        asks: &asks,
+    };
+    run_directed(&rt, alloc, &blocks, 2, store, driver, &OpenGate)?.end();
+    let asked = asks.load(Ordering::SeqCst);
+    holds(&rt, asked == 2, "for the launch, and for the end behind it");
     Ok(())
 }
 
