@@ -6,7 +6,7 @@ use crate::gates::looks;
 use crate::giving::{Asked, Behind, Counting, Starved, Twice};
 use crate::signs::session_of;
 use row_versions::ListStore;
-use session_machine::{EngineFault, Order};
+use session_machine::{EngineFault, Event, Order, Reply};
 use session_threads::{Closed, FreePlan, Gate, OpenGate, ThreadFault, run_directed, run_free};
 use sql_parser::Block;
 use std::alloc::Global;
@@ -130,6 +130,39 @@ fn a_driver_is_asked_once_for_each_order(rt: HostRuntime) -> Result<(), Fail> {
     run_directed(&rt, alloc, &blocks, 2, store, driver, &OpenGate)?.end();
     let asked = asks.load(Ordering::SeqCst);
     holds(&rt, asked == 2, "for the launch, and for the end behind it");
+    Ok(())
+}
+
+/// Admits everything, says that it is asked not even once, and counts the questions.
+#[derive(Drop)]
+struct NoTries {
+    asked: AtomicU64,
+}
+
+impl Gate for NoTries {
+    fn tries(&self) -> u64 {
+        0
+    }
+
+    fn admits(&self, _event: Event) -> bool {
+        self.asked.fetch_add(1, Ordering::SeqCst);
+        true
+    }
+
+    fn answered(&self, _event: Event, _reply: &Reply<'_>) {}
+}
+
+#[test]
+fn a_gate_of_no_tries_is_asked_once(rt: HostRuntime) -> Result<(), Fail> {
+    let alloc = rt.alloc();
+    let blocks = blocks(alloc, 4, &TEXTS)?;
+    let gate = NoTries {
+        asked: AtomicU64::new(0),
+    };
+    let fault = directed(&rt, alloc, &blocks, QUERY, Order::Stop, &gate)?;
+    holds(&rt, fault.is_none(), "the run ends well");
+    let asked = gate.asked.load(Ordering::SeqCst);
+    holds(&rt, asked == 2, "for the launch, and for the step");
     Ok(())
 }
 
