@@ -1,5 +1,5 @@
 //! Which session's thread is to look at which runs of a crew, and who is woken.
-ghost use Rattle.std.specs.Prelude.{◌≡◌, ◌≤◌, IfErr};
+ghost use Rattle.std.specs.Prelude.{◌≡◌, ◌≤◌, bit_and, IfErr};
 ghost use Rattle.iso_lexer.specs.declared.limits.TheConstants.{MOST_SESSIONS};
 
 use crate::fault::ThreadFault;
@@ -15,7 +15,7 @@ pub const MOST_RUNS: usize = 64;
 /// How often a thread looks at its desk before it sleeps.
 const FEW_LOOKS: usize = 20;
 
-/// How often where it looks for a while, in a crew of one run: that takes some 30 to 400 microseconds, by how long the processor
+/// How often where it looks for a while, in a crew of one run: that takes some 30 to 300 microseconds, by how long the processor
 /// rests at each look, and a thread is woken in less. In a crew of more runs a thread waits longer, for something to be done in
 /// several of them.
 const MANY_LOOKS: usize = 6000;
@@ -218,12 +218,14 @@ impl Board {
     }
 
     /// What the session looks at next: the runs that it kept, with what lies on its desk; where it kept none it waits for some.
-    pub fn next<R: Wait>(&self, rt: &R, session: u32, kept: u64) -> u64 {
+    pub fn next<R: Wait>(&self, rt: &R, session: u32, kept: u64) -> u64
+        ensures { bit_and result kept ≡ kept }
+    {
         if kept == 0 {
             return self.take(rt, session);
         }
         match self.desks.get(session as usize) {
-            Some(desk) => kept | desk.take(),
+            Some(desk) => desk.take() | kept,
             None => kept,
         }
     }
