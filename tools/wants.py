@@ -16,7 +16,9 @@ HEAD = """# Lines of code that tell want of memory or of a thread by themselves,
 # Crates of tests, and programs around the library, tell what they like.
 LEFT_OUT = re.compile(r"_tests$|^(test_devices|examples|timings|timeline|isolationtester)$")
 # A value, and no type: behind one of these, and not in front of a pattern's arrow.
-MADE = re.compile(r"(?:^|[(|=>{;]\s*|\breturn )(?:\w+::)*(?:AllocError|(?<=::)(?:Memory|ThreadRefused))\b(?!\)*\s*(?:=>|\||if ))")
+MADE = re.compile(r"(?:^|[(|=>{;,&]\s*|\breturn )(?:\w+::)*(?:AllocError|(?<=::)(?:Memory|ThreadRefused))\b(?!>|\)*\s*(?:=>|\||if ))")
+# What no allocator can give is asked for: a want that is made up.
+TOO_MUCH = re.compile(r"\b(?:usize|isize|u64|i64)::MAX\b")
 SKIPPED = re.compile(r"^(use |pub use |ghost |ensures |requires |//|#|impl |where )")
 # What the allocator refused is told as it was.
 FROM = re.compile(r"fn from\(_\w*: Alloc")
@@ -27,7 +29,7 @@ def made_in(text):
     lines, behind = [], 0
     for line in (it.strip() for it in text.split("\n")):
         behind = 3 if FROM.search(line) else behind - 1
-        if behind <= 0 and not SKIPPED.match(line) and "->" not in line.split("=>")[0] and MADE.search(line):
+        if behind <= 0 and not SKIPPED.match(line) and ("->" not in line.split("=>")[0] and MADE.search(line) or TOO_MUCH.search(line)):
             lines.append(line)
     return lines
 

@@ -122,3 +122,15 @@ fn files_of_each_size_run_alone(rt: HostRuntime) {
 fn files_of_each_size_are_listed(rt: HostRuntime) {
     ends_at_each_size(&rt, rt.alloc(), Call::List);
 }
+
+/// A copy is made of each permutation's entries before it runs.
+#[test]
+fn files_of_each_few_steps_run(rt: HostRuntime) {
+    for count in 1..65 {
+        holds(
+            &rt,
+            ends_at_last(&rt, rt.alloc(), Call::Run, Many::Steps, count),
+            "steps",
+        );
+    }
+}
