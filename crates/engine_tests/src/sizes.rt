@@ -201,3 +201,30 @@ fn any_number_of_sessions(rt: HostRuntime) {
         at_last!(&rt, with_sessions(&rt, rt.alloc(), count));
     }
 }
+
+/// A query of 64 values: behind the first word each takes three bytes.
+const VALUES: &str =
+    "SELECT 1, 1, 1, 1, 1, 1, 1, 1, 1, 1, 1, 1, 1, 1, 1, 1, 1, 1, 1, 1, 1, 1, 1, 1, 1, 1, 1, 1, 1, 1, 1, 1, 1, 1, 1, 1, 1, 1, 1, 1, 1, 1, 1, 1, 1, 1, 1, 1, 1, 1, 1, 1, 1, 1, 1, 1, 1, 1, 1, 1, 1, 1, 1, 1";
+
+/// The query of so many of them.
+fn values_of(count: usize) -> &'static str {
+    let end = count.saturating_mul(3).saturating_add(5);
+    VALUES.get(..end).unwrap_or(VALUES)
+}
+
+/// A session is shown a row of so many values.
+fn with_values(rt: &impl Abort, alloc: Global, count: usize) -> Result<(), AllocError> {
+    let lines: [Line; 1] = [(1, values_of(count), "")];
+    let blocks = blocks(alloc, &lines)?;
+    let mut engine = engine_of(alloc, &blocks, 1, Mode::Directed)?;
+    let outcome = answered(answer_to(&mut engine, 0))?;
+    holds(rt, is_done(&outcome, 1), "a row of so many values");
+    Ok(())
+}
+
+#[test]
+fn any_number_of_values_in_a_row(rt: HostRuntime) {
+    for count in 1..65 {
+        at_last!(&rt, with_values(&rt, rt.alloc(), count));
+    }
+}
