@@ -10,14 +10,14 @@ import sys
 
 TOP = os.path.dirname(os.path.dirname(os.path.realpath(__file__)))
 LIST = f"{TOP}/tools/wants.txt"
-HEAD = """# Lines of code that tell want of memory or of a thread by themselves, or hand another call's want on: what an allocator refused is handed on by `?`. Written by tools/wants.py --write; ./check
-# compares it with the text.
+HEAD = """# Lines of code that tell want of memory or of a thread by themselves, or hand another call's want on: what an allocator refused is handed on by `?`. And those that name the greatest number of a
+# type, for which no allocator has room. Written by tools/wants.py --write; ./check compares it with the text.
 """
 # Crates of tests, and programs around the library, tell what they like.
 LEFT_OUT = re.compile(r"_tests$|^(test_devices|examples|timings|timeline|isolationtester)$")
 # A value, and no type: behind one of these, and not in front of a pattern's arrow.
 MADE = re.compile(r"(?:^|[(|=>{;,&]\s*|\breturn )(?:\w+::)*(?:AllocError|(?<=::)(?:Memory|ThreadRefused))\b(?!>|\)*\s*(?:=>|\||if ))")
-# What no allocator can give is asked for: a want that is made up.
+# So much room no allocator has: who asks for it makes a want up.
 TOO_MUCH = re.compile(r"\b(?:usize|isize|u64|i64)::MAX\b")
 SKIPPED = re.compile(r"^(use |pub use |ghost |ensures |requires |//|#|impl |where )")
 # What the allocator refused is told as it was.
@@ -68,7 +68,7 @@ def differing():
         if line in gone:
             gone.remove(line)
     for line in new:
-        print(f"a want is told where nothing was refused, and tools/wants.txt lacks the line: {line}")
+        print(f"a want may be made up here, and tools/wants.txt lacks the line: {line}")
     for line in gone:
         print(f"tools/wants.txt has a line that isn't there: {line}")
     return len(new) + len(gone)
