@@ -101,6 +101,7 @@ impl<'a, 't, V: Versions> Database<'a, 't, V> {
         ensures told { IfOk result (λ waits. is_blocked self.now (Request.Row row strength) work.now.t.tx ≡ true → policy ≡ Policy.Wait
             → SamePairs waits (waits_in self.now work.now.around.sessions)) }
         ensures memory { OnErr result (is_blocked self.now (Request.Row row strength) work.now.t.tx ≡ true) }
+        ensures only_to_wait { OnErr result (policy ≡ Policy.Wait) }
     {
         match policy {
             Policy::Wait if self.locks.is_blocked(row, work.by.tx, strength) => {

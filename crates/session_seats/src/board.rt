@@ -1,5 +1,5 @@
 //! Which session's thread is to look at which runs of a crew, and who is woken.
-ghost use Rattle.std.specs.Prelude.{◌≡◌, ◌≤◌, bit_and, IfErr};
+ghost use Rattle.std.specs.Prelude.{◌≡◌, ◌<◌, ◌≤◌, ◌^◌, bit_and, IfErr};
 ghost use Rattle.iso_lexer.specs.declared.limits.TheConstants.{MOST_SESSIONS};
 
 use crate::fault::ThreadFault;
@@ -23,8 +23,11 @@ const MANY_LOOKS: usize = 6000;
 /// How often in a row a thread doesn't look for a while, at most.
 const MOST_DOUBT: usize = 127;
 
-/// The bit of the run at this place.
-pub fn bit_of(place: usize) -> u64 {
+/// The bit of the run at this place; none of one behind the 64th.
+pub fn bit_of(place: usize) -> u64
+    ensures bit { place < 64 → result ≡ 2 ^ place }
+    ensures none { 64 ≤ place → result ≡ 0 }
+{
     if place < MOST_RUNS { 1 << place } else { 0 }
 }
 

@@ -104,6 +104,7 @@ fn close_one<'a, 't, V: Versions, O: Orderings>(
     ensures refused { over.entry.place ≡ place → IsOf over.entry.run.engine.state (blocks_of blocks.now) sessions Mode.Directed → IfSome over.entry.run.met (λ fault. result ≡ Err fault) }
     ensures other_place { over.entry.run.met ≡ None → ¬ (over.entry.place ≡ place) → result ≡ Err ThreadFault.OtherRun }
     ensures other_run { over.entry.run.met ≡ None → ¬ (IsOf over.entry.run.engine.state (blocks_of blocks.now) sessions Mode.Directed) → result ≡ Err ThreadFault.OtherRun }
+    ensures late { over.entry.place ≡ place → over.entry.run.met ≡ None → IsOf over.entry.run.engine.state (blocks_of blocks.now) sessions Mode.Directed → IfSome over.entry.run.late (λ fault. result ≡ Err fault) }
     ensures ran { IfOk result (RanBy (blocks_of blocks.now) sessions (O.orders place)) }
     ensures stopped { IfErr result (MayStop (O.orders place) (blocks_of blocks.now) sessions) }
 {

@@ -49,6 +49,7 @@ fn processors<R: Threads>(rt: &R) -> usize {
 /// runs in.
 fn at_a_time(sessions: usize, wanted: usize) -> usize
     ensures few { (0 < result) × (result ≤ 16) }
+    ensures wanted { (result ≡ 1) ⊎ (result ≤ wanted) }
     ensures threads { (result ≡ 1) ⊎ (result * (sessions + 1) ≤ 64) }
 {
     let each = sessions.saturating_add(1);
