@@ -49,10 +49,12 @@ starts() {
   env MARK="$room/mark" REFUSED_START="$1" LD_PRELOAD="$room/refuse.so" timeout 60 "$program" < "$room/many" > "$room/out" 2> "$room/err" || status=$?
 }
 
-ended=0
+# (one processor alone has a thread for each session started, for up to 1,024 permutations, and then anew for the others)
+ended=0 tried=0
 for number in $(seq 40); do
   starts "$number"
-  [ -e "$room/mark" ] || { echo "start $number of a thread: it isn't asked for"; exit 1; }
+  [ -e "$room/mark" ] || break
+  tried=$number
   if [ "$status" -eq 0 ]; then
     cmp "$room/out" "$room/whole"
   else
@@ -63,4 +65,5 @@ for number in $(seq 40); do
     ended=$((ended + 1))
   fi
 done
-echo "without the first thread 1,680 permutations run all the same; of 40 starts refused one by one $ended end the run as R10, behind a prefix of its text"
+[ "$tried" -ge 6 ] || { echo "no more than $tried starts of threads are asked for"; exit 1; }
+echo "without the first thread 1,680 permutations run all the same; of $tried starts refused one by one $ended end the run as R10, behind a prefix of its text"

@@ -1,15 +1,49 @@
 -- The drafts of permutations that one crew has run, as they are written one after the other.
-use Rattle.std.proofs.Common.{◌≡◌, ℕ, ◌+◌, ◌<◌, get_or, take, drop, zero, suc, List, [], ◌∷◌, ◌++◌, length, map, sym, ap, subst, ◌∙◌, arith, append-nil, append_assoc}
+use Rattle.std.proofs.Common.{◌≡◌, ◌≢◌, ◌⊎◌, inl, inr, ℕ, ◌+◌, ◌<◌, get_or, take, drop, zero, suc, List, [], ◌∷◌, ◌++◌, length, map, Option, Some, true, refl, sym, ap, subst, ◌∙◌, arith, append-nil, append_assoc}
 use Rattle.std.proofs.lemmas.List.{length-map, map-append, take_more, take-append-drop}
 use Rattle.std.proofs.lemmas.List.Elements.{All-append}
 use Rattle.std.specs.List.{All}
 use Rattle.std.specs.Global.{Vec}
+use Rattle.std.specs.Prelude.{Result, Err, IfErr, IsTrue}
+use Rattle.iso_lexer.specs.Devices.{page_text}
+use Rattle.iso_lexer.specs.declared.page.Page.{Page}
+use Rattle.session_machine.specs.Machine.{Blocks}
 use Rattle.spec_parser.specs.declared.tree.Entry.{Entry}
-use Rattle.spec_parser.specs.Trees.{SpecTree, perm_view}
+use Rattle.spec_parser.specs.Trees.{SpecTree, entry_view, perm_view}
 use Rattle.spec_files.specs.declared.draft.Draft.{Draft}
-use Rattle.spec_files.specs.Drafts.{AreDrafts, entries_read}
+use Rattle.spec_files.specs.declared.fault.RunFault.{RunFault}
+use Rattle.spec_files.specs.declared.fault.RunFault.TheVariants as faults
+use Rattle.spec_files.specs.Drafts.{AreDrafts, IsDraft, entries_read}
 use Rattle.spec_files.specs.Plans.{Planning}
+use Rattle.spec_files.specs.Runs.{is_of_one, has_ended, IsOneTold}
+use Rattle.spec_files.specs.Stopped.{IsStoppedSo}
 use Rattle.permutations.specs.Inner.Runs.{ArePlans, IsPlanOf}
+
+-- what a run came to, told of it with its pages in memory, is a draft of it
+pub drafted : (spec : SpecTree) (blocks : Blocks) (entries : Vec Entry) (lent : List Entry) (text notes : Page) (old_text old_notes : Option (List ℕ)) (told result : Result (Unit {0}) RunFault)
+    → lent ≡ entries.items → old_text ≡ Some [] → old_notes ≡ Some []
+    → (IsTrue (has_ended told) → IsOneTold spec blocks (map entry_view lent) old_text (Some (page_text text)) old_notes (Some (page_text notes)) told)
+    → told ≢ Err faults.ScheduleBroken → IfErr told (λ e. is_of_one e ≡ true) → IsStoppedSo spec blocks (map entry_view lent) told
+    → (result ≡ told) ⊎ (result ≡ Err faults.Memory) → result ≢ Err faults.Write
+    → IsDraft spec blocks (record { entries = entries; text = text; notes = notes; result = result })
+drafted spec blocks entries lent text notes old_text old_notes told result same empty none begun unbroken kinds sure (inr lacking) unwritten =
+    subst (λ (r : Result (Unit {0}) RunFault). IsDraft spec blocks (record { entries = entries; text = text; notes = notes; result = r })) (sym lacking)
+    (record { told = λ ended. absurd cc; unbroken = λ is. absurd cc; unwritten = λ is. absurd cc; kinds = refl; sure = λ fit steps broken. refl })
+drafted spec blocks entries lent text notes old_text old_notes told result same empty none begun unbroken kinds sure (inl own) unwritten =
+    record {
+      told = λ ended.
+          subst (λ (r : Result (Unit {0}) RunFault). IsOneTold spec blocks (map entry_view entries.items) (Some []) (Some (page_text text)) (Some []) (Some (page_text notes)) r) (sym own)
+          (subst (λ (es : List Entry). IsOneTold spec blocks (map entry_view es) (Some []) (Some (page_text text)) (Some []) (Some (page_text notes)) told) same
+          (subst (λ (before : Option (List ℕ)). IsOneTold spec blocks (map entry_view lent) (Some []) (Some (page_text text)) before (Some (page_text notes)) told) none
+          (subst (λ (before : Option (List ℕ)). IsOneTold spec blocks (map entry_view lent) before (Some (page_text text)) old_notes (Some (page_text notes)) told) empty
+          (begun (subst (λ (r : Result (Unit {0}) RunFault). IsTrue (has_ended r)) own ended)))));
+      unbroken = λ is. unbroken (sym own ∙ is);
+      unwritten = unwritten;
+      kinds = subst (λ (r : Result (Unit {0}) RunFault). IfErr r (λ e. is_of_one e ≡ true)) (sym own) kinds;
+      sure =
+          subst (λ (r : Result (Unit {0}) RunFault). IsStoppedSo spec blocks (map entry_view entries.items) r) (sym own)
+          (subst (λ (es : List Entry). IsStoppedSo spec blocks (map entry_view es) told) same sure);
+    }
 
 -- one more plan
 pub planned_more : (spec : SpecTree) (taken : List (Vec Entry)) (plans : List Planning) (entries : Vec Entry) (plan : Planning)

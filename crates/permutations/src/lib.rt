@@ -6,6 +6,7 @@ mod driver;
 mod free_run;
 mod freely;
 mod program;
+mod report;
 mod run;
 mod terminal;
 mod thread_run;

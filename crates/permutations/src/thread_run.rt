@@ -1,6 +1,6 @@
 //! The run of one permutation, with a thread for each session.
 
-ghost use Rattle.std.specs.Prelude.{◌≡◌, ◌≢◌, ◌||◌, [], true, All, Err, length, map, IsTrue, IfErr, IfNone, IfOk, IfSome, IsErrOf};
+ghost use Rattle.std.specs.Prelude.{◌≡◌, ◌≢◌, ◌≤◌, ◌||◌, [], true, All, Err, length, map, IsTrue, IfErr, IfOk, IsErrOf};
 ghost use Rattle.row_versions.specs.Log.{empty_content};
 ghost use Rattle.sql_blocks.specs.Blocks.{blocks_of};
 ghost use Rattle.session_machine.specs.Engine.{is_quiet_in};
@@ -14,22 +14,21 @@ ghost use Rattle.spec_files.specs.Runs.{is_of_one, is_of_run, has_broken, has_en
 ghost use Rattle.spec_files.specs.Written.{IsWritten};
 ghost use Rattle.spec_files.specs.Complete.{HasItsBlocks, HasItsSteps};
 ghost use Rattle.spec_files.specs.Faults.{thread_fault};
-ghost use Rattle.permutations.specs.Inner.Runs.{ArePlans, RanAsEach, RanSo};
+ghost use Rattle.permutations.specs.Inner.Runs.{ArePlans, RanSo};
 ghost use Rattle.spec_files.specs.Stopped.{is_of_threads, IsStoppedSo};
 
 use crate::driver::Plan;
 use chain_store::ChainStore;
 use iso_lexer::Sink;
-use session_threads::{Closed, Gate, Run, ThreadFault, run_each};
+use row_versions::Versions;
+use session_threads::{Closed, Run, ThreadFault};
 use spec_files::{Ended, RunFault, write_permutation};
 use spec_parser::{Entry, Spec};
 use sql_blocks::Block;
 use std::alloc::Global;
-use std::sync::Wait;
-use std::thread::Threads;
 
 /// A closed run that is quiet came to rest: what its history leads to is its state.
-fn rests(closed: &Closed<'_, '_, ChainStore>)
+fn rests<V: Versions>(closed: &Closed<'_, '_, V>)
     requires { is_quiet_in closed.now.state.machine ≡ true }
     ensures { IsAtRest closed.now.state }
 {
@@ -38,12 +37,13 @@ fn rests(closed: &Closed<'_, '_, ChainStore>)
 }
 
 /// Each of these permutations with its plan, over an empty store: as many as memory allows, from the first on.
-fn plans_of<'s>(
+pub fn plans_of<'s>(
     alloc: Global,
     spec: &Spec<'_>,
     taken: &'s [Vec<Entry>],
 ) -> Vec<Run<ChainStore, Plan<'s>>>
     requires { Stands (spec_view spec.now) }
+    ensures few { length result.items ≤ length taken.now }
     ensures plans { ArePlans (spec_view spec.now) taken.now (map (λ run. run.driver) result.items) }
     ensures empty { All (λ run. run.store ≡ empty_content) result.items }
     ensures follows { All (λ run. IsFollowing run.driver []) result.items }
@@ -61,34 +61,12 @@ fn plans_of<'s>(
     runs
 }
 
-/// The closed runs of these permutations, which one crew runs side by side. Their launches are the permutations': what a plan
-/// doesn't give is never launched, and an engine refuses only what one gives. Where memory is refused there are fewer, from the
-/// first on.
-pub fn runs_of<'a, 't, G: Gate, R: Threads + Wait + Sync>(
-    rt: &R,
-    alloc: Global,
-    spec: &Spec<'_>,
-    blocks: &'a [Block<'t>],
-    taken: &[Vec<Entry>],
-    gate: &G,
-) -> Vec<Result<Closed<'a, 't, ChainStore>, ThreadFault>>
-    requires { Stands (spec_view spec.now) }
-    ensures { RanAsEach (spec_view spec.now) (blocks_of blocks.now) taken.now result.items }
-{
-    let sessions = spec.sessions.len() as u32;
-    let runs = plans_of(alloc, spec, taken);
-    match run_each(rt, alloc, blocks, sessions, runs, gate) {
-        Ok(closed) => closed,
-        Err(_) => Vec::new(alloc),
-    }
-}
-
 /// Writes the report of a closed run.
-fn write_run<W: Sink, N: Sink>(
+fn write_run<V: Versions, W: Sink, N: Sink>(
     alloc: Global,
     spec: &Spec<'_>,
     entries: &[Entry],
-    closed: &Closed<'_, '_, ChainStore>,
+    closed: &Closed<'_, '_, V>,
     out: &mut W,
     notes: &mut N,
 ) -> Result<Ended, RunFault>
@@ -102,44 +80,40 @@ fn write_run<W: Sink, N: Sink>(
 
 /// A run of the permutation as it was closed. It is refused for the faults of its threads, each told as it is, and for want of memory,
 /// never as `ScheduleBroken`, and for no refusal of the engine where its blocks and steps are there.
-fn closed_of<'a, 't>(
+fn closed_of<'a, 't, V: Versions>(
     spec: &Spec<'_>,
     blocks: &[Block<'_>],
     entries: &[Entry],
-    run: Option<Result<Closed<'a, 't, ChainStore>, ThreadFault>>,
-) -> Result<Closed<'a, 't, ChainStore>, RunFault>
+    run: Result<Closed<'a, 't, V>, ThreadFault>,
+) -> Result<Closed<'a, 't, V>, RunFault>
     requires stands { Stands (spec_view spec.now) }
-    requires ran { IfSome run (RanSo (spec_view spec.now) (blocks_of blocks.now) (map entry_view entries.now)) }
+    requires ran { RanSo (spec_view spec.now) (blocks_of blocks.now) (map entry_view entries.now) run }
     ensures regular { IfOk result (λ c. IsRegular (spec_view spec.now) (blocks_of blocks.now) (map entry_view entries.now) c.state.history) }
     ensures unbroken { result ≢ Err RunFault.ScheduleBroken }
     ensures faults { IfErr result (λ e. is_of_run e ≡ true) }
-    ensures exact { IfSome run.entry (λ run. IfErr run (λ fault. result ≡ Err (thread_fault fault))) }
-    ensures lacking { IfNone run.entry (result ≡ Err RunFault.Memory) }
+    ensures exact { IfErr run.entry (λ fault. result ≡ Err (thread_fault fault)) }
     ensures sure { HasItsBlocks (spec_view spec.now) (blocks_of blocks.now) → HasItsSteps (spec_view spec.now) (map entry_view entries.now) → IfErr result (λ e. is_of_threads e ≡ true) }
 {
     let _ = spec.sessions.len();
     let _ = blocks.len();
     let _ = entries.len();
-    let Some(run) = run else {
-        return Err(RunFault::Memory);
-    };
     let closed = run?;
     rests(&closed);
     Ok(closed)
 }
 
 /// Writes the report of a run, where it was closed; else tells why it wasn't.
-pub fn tell_permutation<W: Sink, N: Sink>(
+pub fn tell_permutation<V: Versions, W: Sink, N: Sink>(
     alloc: Global,
     spec: &Spec<'_>,
     blocks: &[Block<'_>],
     entries: &[Entry],
-    run: Option<Result<Closed<'_, '_, ChainStore>, ThreadFault>>,
+    run: Result<Closed<'_, '_, V>, ThreadFault>,
     out: &mut W,
     notes: &mut N,
 ) -> Result<(), RunFault>
     requires stands { Stands (spec_view spec.now) }
-    requires ran { IfSome run (RanSo (spec_view spec.now) (blocks_of blocks.now) (map entry_view entries.now)) }
+    requires ran { RanSo (spec_view spec.now) (blocks_of blocks.now) (map entry_view entries.now) run }
     ensures told { IsTrue (has_ended result) → IsOneTold (spec_view spec.now) (blocks_of blocks.now) (map entry_view entries.now)
         (W.put_so_far out.old) (W.put_so_far out.new) (N.put_so_far notes.old) (N.put_so_far notes.new) result }
     ensures begun { Begun (OneSays (spec_view spec.now) (blocks_of blocks.now) (map entry_view entries.now))
@@ -148,7 +122,7 @@ pub fn tell_permutation<W: Sink, N: Sink>(
     ensures unbroken { result ≢ Err RunFault.ScheduleBroken }
     ensures write { IsErrOf result RunFault.Write → (W.failed out.new || N.failed notes.new) ≡ true }
     ensures kinds { IfErr result (λ e. is_of_one e ≡ true) }
-    ensures exact { IfSome run.entry (λ run. IfErr run (λ fault. result ≡ Err (thread_fault fault))) }
+    ensures exact { IfErr run.entry (λ fault. result ≡ Err (thread_fault fault)) }
     ensures sure { IsStoppedSo (spec_view spec.now) (blocks_of blocks.now) (map entry_view entries.now) result }
 {
     let closed = closed_of(spec, blocks, entries, run)?;

@@ -1,355 +1,280 @@
 //! Runs that a crew serves side by side, in each of which a driver says what is given to whom.
-ghost use Rattle.std.specs.Prelude.{◌≡◌, ◌≤◌, ◌&&◌, [], true, All, None, Some, length, IfOk, IfSome, if◌then◌else◌};
+ghost use Rattle.std.specs.Prelude.{◌≡◌, ◌≤◌, ℕ, All, IfOk, IfSome, length};
 ghost use Rattle.iso_lexer.specs.declared.limits.TheConstants.{MOST_SESSIONS};
-ghost use Rattle.session_machine.specs.Engine.{is_quiet_in};
-ghost use Rattle.session_seats.specs.Orders.{IsDriven};
-ghost use Rattle.session_seats.specs.Refusals.{MayMeet};
+ghost use Rattle.session_crews.specs.Crews.{EachFrom, MayServe};
+ghost use Rattle.session_crews.specs.Inner.Queue.{Serves};
 ghost use Rattle.session_crews.specs.Inner.Room.{IsRoomFor};
 
-use crate::columns::{columns, last_seats, turn_round};
-use crate::crew::{Desk, give_up, work};
+use crate::counter::Counter;
+use crate::crew::Room;
 use crate::driven::Drives;
-use crate::joined::Joined;
-use crate::shared::{Hand, Opened, Shared};
+use crate::keeper::{Keeper, Keeping};
+use crate::queue::{Kept, Queue};
+use crate::shared::Opened;
+use crate::slot::Slot;
 use session_machine::{Engine, EngineFault};
-use session_seats::{
-    Board, Gate, NotStarted, Orderings, SeatAt, ThreadFault, bit_of, start_thread,
-};
+use session_seats::{Board, Gate, NotStarted, Orderings, SeatAt, ThreadFault, start_thread};
 use std::alloc::{AllocError, Global};
-use std::sync::{Mutex, Wait};
+use std::marker::Brand;
+use std::sync::Wait;
 use std::thread;
 use std::thread::{JoinHandle, Scope, Threads};
 
-/// A run whose threads are joined, and its place.
-#[derive(Drop)]
-pub struct Ended<E: Engine, S> {
-    pub place: usize,
-    pub run: Joined<E, S>,
-}
+/// How many runs are in flight at a time, at most: what wakes a thread serves many, and what each holds is soon given to the next.
+const IN_FLIGHT: usize = 24;
 
-/// Starts a thread. Each start that is refused ends one run, the first in which none was refused before, and then it is tried
-/// again for the others. So many runs were refused one before; says in how many one is now.
+/// Starts a thread for a session. Each start that is refused loses the first run that waits, and then it is tried again for the
+/// others.
 fn start_one<
     's,
     'e: 's,
     E: Engine,
+    S: SeatAt<E>,
     O: Orderings,
-    D: Drives<E>,
-    R: Wait,
+    D: Drives<E> + Drop,
+    T: Drop,
+    B: Keeping<Opened<E, D>, T>,
+    K: Keeper<E, S, T>,
     F: FnOnce() -> () + Send + Drop + 's,
 >(
     scope: &'s Scope<'s, &'e ()>,
-    rt: &R,
-    runs: &[Mutex<Shared<E, O, D>>],
-    board: &Board,
     crew: &mut Vec<JoinHandle<()>>,
-    before: usize,
+    counter: &mut Counter<'_, E, S, O, D, T, B, K>,
     work: F,
-) -> usize
+)
     requires pre { (f : _) → F.pre f }
 {
     let mut work = work;
-    for place in before..runs.len() {
+    for _ in 0..counter.waiting() {
         let Err(refused) = start_thread(scope, crew, work) else {
-            return place;
+            return;
         };
         let NotStarted { fault, work: again } = refused;
-        if let Some(run) = runs.get(place) {
-            give_up(rt, run, board, place, fault);
-        }
+        counter.lose_next(fault);
         work = again;
     }
-    runs.len()
 }
 
-/// Starts a thread for each of these sessions.
+/// Starts a thread for each session but the control session.
 fn start<
     's,
     'e: 's,
     E: Engine + Send + 's,
     S: SeatAt<E> + Send + 's,
     O: Orderings + Send + 's,
-    D: Drives<E> + Send + 's,
+    D: Drives<E> + Send + Drop + 's,
+    T: Drop,
+    B: Keeping<Opened<E, D>, T>,
+    K: Keeper<E, S, T>,
     G: Gate + 's,
     R: Wait + Sync + 's,
 >(
     scope: &'s Scope<'s, &'e ()>,
     rt: &'s R,
-    alloc: Global,
-    runs: &'s [Mutex<Shared<E, O, D>>],
-    board: &'s Board,
-    gate: &'s G,
-    columns: &'s mut [Vec<S>],
+    room: &'s Room<'_, E, S, O, D, G>,
     crew: &mut Vec<JoinHandle<()>>,
+    counter: &mut Counter<'_, E, S, O, D, T, B, K>,
 ) {
-    let mut session = 0u32;
-    let mut refused = 0usize;
-    for column in columns.iter_mut() {
-        session = session.wrapping_add(1);
-        let desk = Desk {
-            alloc,
-            session,
-            seats: &mut **column,
-        };
-        let work = move || work(rt, runs, board, gate, desk);
-        refused = start_one(scope, rt, runs, board, crew, refused, work);
+    for session in 1..counter.sessions() + 1 {
+        let work = move || room.work(rt, session);
+        start_one(scope, crew, counter, work);
     }
 }
 
-/// Starts a thread for each session but the control session, does what is that one's in the calling thread until all runs
-/// are over, and joins the others.
+/// Starts the threads, does what is the control session's in the calling one until all runs are over, and joins the others.
 fn serve_in<
     's,
     'e: 's,
     E: Engine + Send + 's,
     S: SeatAt<E> + Send + 's,
     O: Orderings + Send + 's,
-    D: Drives<E> + Send + 's,
+    D: Drives<E> + Send + Drop + 's,
+    T: Drop,
+    B: Keeping<Opened<E, D>, T>,
+    K: Keeper<E, S, T>,
     G: Gate + 's,
     R: Threads + Wait + Sync + 's,
 >(
     scope: &'s Scope<'s, &'e ()>,
     rt: &'s R,
-    alloc: Global,
-    runs: &'s [Mutex<Shared<E, O, D>>],
-    board: &'s Board,
-    gate: &'s G,
-    columns: &'s mut [Vec<S>],
+    room: &'s Room<'_, E, S, O, D, G>,
+    counter: &mut Counter<'_, E, S, O, D, T, B, K>,
 ) {
-    let mut crew = Vec::new(alloc);
-    if let Some((control, others)) = columns.split_first_mut() {
-        start(scope, rt, alloc, runs, board, gate, others, &mut crew);
-        let desk = Desk {
-            alloc,
-            session: 0,
-            seats: &mut **control,
-        };
-        work(rt, runs, board, gate, desk);
-    }
+    let mut crew = Vec::new(room.alloc);
+    start(scope, rt, room, &mut crew, counter);
+    counter.serve(rt, room);
     for thread in crew {
         thread.join(rt);
     }
 }
 
-/// Serves the runs in a scope, and gives the seats back; the first are the control session's.
-fn serve_runs<
-    E: Engine + Send,
-    S: SeatAt<E> + Send,
-    O: Orderings + Send,
-    D: Drives<E> + Send,
-    G: Gate,
-    R: Threads + Wait + Sync,
->(
-    rt: &R,
-    alloc: Global,
-    runs: &[Mutex<Shared<E, O, D>>],
-    board: &Board,
-    gate: &G,
-    mut columns: Vec<Vec<S>>,
-) -> Vec<Vec<S>> {
-    let lent = &mut *columns;
-    thread::scope(thread::scope_env(), rt, move |scope| {
-        serve_in(scope, rt, alloc, runs, board, gate, lent)
-    });
-    columns
-}
-
-/// What is left of what stood behind the lock, with the seats, where there was memory for their list. A run that the driver
-/// didn't stop, or in which something still goes on, hasn't come to its end.
-fn ended_of<E: Engine, S: Drop, O: Orderings, D: Drives<E> + Drop>(
-    alloc: Global,
-    shared: Shared<E, O, D>,
-    seats: Result<Vec<S>, AllocError>,
-) -> Ended<E, S>
-    ensures same { (result.place ≡ shared.place) × (E.engine result.run.engine ≡ shared.engine) }
-    ensures met { IfSome shared.fault (λ fault. result.run.met ≡ Some fault) }
-    ensures seats { shared.fault ≡ None → IfSome result.run.met (λ fault. fault ≡ ThreadFault.Memory) }
-    ensures driven { result.run.late ≡ None → IsDriven (O.orders result.place) (E.engine result.run.engine).history }
-    ensures quiet { result.run.late ≡ None → is_quiet_in (E.engine result.run.engine).machine ≡ true }
-    ensures told { IfSome result.run.late (λ fault. fault ≡ ThreadFault.Engine EngineFault.NotYourTurn) }
-    ensures may { IfSome result.run.met (MayMeet (O.orders result.place) (E.engine result.run.engine)) }
-    ensures late { result.run.late ≡ (if shared.stop && is_quiet_in shared.engine.machine then None else Some (ThreadFault.Engine EngineFault.NotYourTurn)) }
-{
-    let (place, engine, stop, fault) = shared.into_parts();
-    let late = if stop && engine.quiet() {
-        None
-    } else {
-        Some(ThreadFault::Engine(EngineFault::NotYourTurn))
-    };
-    let (seats, refused) = match seats {
-        Ok(seats) => (seats, None),
-        Err(_) => (Vec::new(alloc), Some(ThreadFault::Memory)),
-    };
-    let run = Joined {
-        engine,
-        seats,
-        met: fault.or(refused),
-        late,
-    };
-    Ended { place, run }
-}
-
-/// Puts a run behind a lock of its own, and on the desk of who looks at it first.
-fn begin<E: Engine, O: Orderings, D: Drives<E>>(
-    alloc: Global,
-    board: &Board,
+/// What is kept at this place, or that the run there came to no end.
+fn item_at<E, S, T: Drop, K: Keeper<E, S, T>>(
+    keeper: &K,
+    kept: Option<Option<Kept<T>>>,
     place: usize,
-    opened: Opened<E, D>,
-) -> Mutex<Shared<E, O, D>>
-    requires new { (E.engine opened.engine).history ≡ [] }
-    requires orders { D.order_after opened.driver ≡ O.orders opened.place }
-    requires follows { D.follows opened.driver [] }
+) -> T
+    requires ready { K.is_ready keeper.now }
+    requires kept { IfSome kept (λ slot. IfSome slot (λ kept. K.keeps keeper.now kept.place kept.item)) }
+    ensures { K.keeps keeper.now place result }
 {
-    let mut shared: Shared<E, O, D> = Shared::new(alloc, opened);
-    shared.ask();
-    match shared.hand() {
-        Hand::Session(session) => board.put(session, bit_of(place)),
-        Hand::Nobody => board.end(place),
+    match kept {
+        Some(Some(kept)) if kept.place == place => kept.item,
+        _ => keeper.lose(place, ThreadFault::Engine(EngineFault::NotYourTurn)),
     }
-    Mutex::new(shared)
 }
 
-/// Puts each run behind a lock of its own, in the room that was made for them.
-fn begin_each<E: Engine, O: Orderings, D: Drives<E> + Drop>(
-    alloc: Global,
-    board: &Board,
-    opened: Vec<Opened<E, D>>,
-    mut runs: Vec<Mutex<Shared<E, O, D>>>,
-) -> Vec<Mutex<Shared<E, O, D>>>
-    requires new { All (λ run. (E.engine run.engine).history ≡ []) opened.items }
-    requires orders { All (λ run. D.order_after run.driver ≡ O.orders run.place) opened.items }
-    requires follows { All (λ run. D.follows run.driver []) opened.items }
-    requires room { IsRoomFor (length opened.items) runs }
-    ensures { length result.items ≡ length opened.items }
-{
-    for run in opened {
-        let begun = begin(alloc, board, runs.len(), run);
-        runs.push(begun).unwrap();
-    }
-    runs
-}
-
-/// What is left of each run, with the last seats of each session for the first of them, in the room that was made for it.
-fn ended_of_each<E: Engine, S: Drop, O: Orderings, D: Drives<E> + Drop>(
-    alloc: Global,
-    runs: Vec<Mutex<Shared<E, O, D>>>,
-    columns: &mut [Vec<S>],
-    mut ended: Vec<Ended<E, S>>,
-) -> Vec<Ended<E, S>>
-    requires room { IsRoomFor (length runs.items) ended }
-    ensures count { length result.items ≡ length runs.items }
-    ensures quiet { All (λ over. over.run.late ≡ None → is_quiet_in (E.engine over.run.engine).machine ≡ true) result.items }
-    ensures driven { All (λ over. over.run.late ≡ None → IsDriven (O.orders over.place) (E.engine over.run.engine).history) result.items }
-    ensures late { All (λ over. IfSome over.run.late (λ fault. fault ≡ ThreadFault.Engine EngineFault.NotYourTurn)) result.items }
-    ensures may { All (λ over. IfSome over.run.met (MayMeet (O.orders over.place) (E.engine over.run.engine))) result.items }
-{
-    for run in runs {
-        let seats = last_seats(alloc, columns);
-        let over: Ended<E, S> = ended_of(alloc, run.into_inner(), seats);
-        ended.push(over).unwrap();
-    }
-    ended
-}
-
-/// What the runs of a crew have in common, and room for each of them.
-#[derive(Drop)]
-struct Room<E: Engine, S, O: Orderings, D: Drives<E>> {
-    board: Board,
-    columns: Vec<Vec<S>>,
-    runs: Vec<Mutex<Shared<E, O, D>>>,
-    ended: Vec<Ended<E, S>>,
-}
-
-/// All the memory that a crew of so many runs takes beside what each run takes by itself.
-fn room_for<E: Engine, S: SeatAt<E>, O: Orderings, D: Drives<E> + Drop>(
-    alloc: Global,
-    sessions: u32,
+/// What is kept of each run, in order, in the room that was made for it. One of which nothing is kept came to no end.
+fn in_order<E, S, T: Drop, K: Keeper<E, S, T>>(
+    keeper: &K,
+    kept: Vec<Option<Kept<T>>>,
     count: usize,
-) -> Result<Room<E, S, O, D>, AllocError>
-    requires { sessions ≤ MOST_SESSIONS }
-    ensures { IfOk result (λ room. IsRoomFor count room.runs × IsRoomFor count room.ended) }
+    mut all: Vec<T>,
+) -> Vec<T>
+    requires ready { K.is_ready keeper.now }
+    requires kept { All (λ slot. IfSome slot (λ kept. K.keeps keeper.now kept.place kept.item)) kept.items }
+    requires room { IsRoomFor count all }
+    ensures count { length result.items ≡ count }
+    ensures kept { EachFrom (K.keeps keeper.now) 0 result.items }
 {
-    let runs = Vec::with_capacity(alloc, count)?;
-    let ended = Vec::with_capacity(alloc, count)?;
-    let columns = columns::<E, S>(alloc, sessions, count)?;
-    let Ok(board) = Board::new(alloc, sessions, count) else {
-        return Err(AllocError);
-    };
-    Ok(Room {
-        board,
-        columns,
-        runs,
-        ended,
-    })
+    let mut kept = kept.into_iter();
+    for place in 0..count {
+        all.push(item_at(keeper, kept.next(), place)).unwrap();
+    }
+    all
 }
 
-/// Runs these in the room that was made for them.
-fn run_in<
+/// A slot for each run that is in flight at a time.
+fn slots_for<E: Engine, S: SeatAt<E>, O: Orderings, D: Drives<E> + Drop>(
+    alloc: Global,
+    count: usize,
+) -> Result<Vec<Slot<E, S, O, D>>, AllocError> {
+    let mut slots = Vec::with_capacity(alloc, count)?;
+    for _ in 0..count {
+        slots.push(Slot::empty())?;
+    }
+    Ok(slots)
+}
+
+/// Serves the runs in a scope.
+fn serve_in_scope<
     E: Engine + Send,
     S: SeatAt<E> + Send,
     O: Orderings + Send,
     D: Drives<E> + Send + Drop,
+    T: Drop,
+    B: Keeping<Opened<E, D>, T>,
+    K: Keeper<E, S, T>,
+    G: Gate,
+    R: Threads + Wait + Sync,
+>(rt: &R, room: &Room<'_, E, S, O, D, G>, counter: &mut Counter<'_, E, S, O, D, T, B, K>) {
+    thread::scope(thread::scope_env(), rt, move |scope| {
+        serve_in(scope, rt, room, counter)
+    });
+}
+
+/// Serves the runs, and gives what is kept of them.
+fn serve_runs<
+    E: Engine + Send,
+    S: SeatAt<E> + Send,
+    O: Orderings + Send,
+    D: Drives<E> + Send + Drop,
+    T: Drop,
+    B: Keeping<Opened<E, D>, T>,
+    K: Keeper<E, S, T>,
     G: Gate,
     R: Threads + Wait + Sync,
 >(
     rt: &R,
     alloc: Global,
-    room: Room<E, S, O, D>,
-    opened: Vec<Opened<E, D>>,
+    sessions: u32,
+    runs: Vec<Opened<E, D>>,
+    keeper: &K,
     gate: &G,
-) -> Vec<Ended<E, S>>
-    requires new { All (λ run. (E.engine run.engine).history ≡ []) opened.items }
-    requires orders { All (λ run. D.order_after run.driver ≡ O.orders run.place) opened.items }
-    requires follows { All (λ run. D.follows run.driver []) opened.items }
-    requires room { IsRoomFor (length opened.items) room.runs × IsRoomFor (length opened.items) room.ended }
-    ensures count { length result.items ≡ length opened.items }
-    ensures quiet { All (λ over. over.run.late ≡ None → is_quiet_in (E.engine over.run.engine).machine ≡ true) result.items }
-    ensures driven { All (λ over. over.run.late ≡ None → IsDriven (O.orders over.place) (E.engine over.run.engine).history) result.items }
-    ensures late { All (λ over. IfSome over.run.late (λ fault. fault ≡ ThreadFault.Engine EngineFault.NotYourTurn)) result.items }
-    ensures may { All (λ over. IfSome over.run.met (MayMeet (O.orders over.place) (E.engine over.run.engine))) result.items }
+) -> Result<Vec<Option<Kept<T>>>, AllocError>
+    requires few { sessions ≤ MOST_SESSIONS }
+    requires serves { Serves E.engine D.order_after D.follows O.orders (K.is_ready keeper.now) (K.ends keeper.now) (K.keeps keeper.now) B.waits B.kept }
+    requires waits { EachFrom B.waits 0 runs.items }
+    ensures { IfOk result (λ kept. All (λ slot. IfSome slot (λ kept. B.kept kept.place kept.item)) kept.items) }
 {
-    let Room {
+    let in_flight = runs.len().min(IN_FLIGHT);
+    let slots = slots_for::<E, S, O, D>(alloc, in_flight)?;
+    let Ok(board) = Board::new(alloc, sessions, in_flight) else {
+        return Err(AllocError);
+    };
+    let queue: Queue<Opened<E, D>, T, B> = Queue::new(alloc, runs)?;
+    let mut counter = Counter::new(alloc, sessions, keeper, queue);
+    let room = Room {
+        alloc,
+        slots,
         board,
-        columns,
-        runs,
-        ended,
-    } = room;
-    let runs = begin_each(alloc, &board, opened, runs);
-    let mut columns = serve_runs(rt, alloc, &runs, &board, gate, columns);
-    turn_round(&mut columns);
-    ended_of_each(alloc, runs, &mut columns, ended)
+        gate,
+    };
+    serve_in_scope(rt, &room, &mut counter);
+    Ok(counter.into_kept())
 }
 
-/// Runs on engines in which nothing has happened what their drivers order, each event in its session's own thread, which all
-/// runs have in common; the calling thread is the control session's. A thread does one event in each run in which it is its
-/// session's turn, and then hands those runs on. The thread whose event left an engine quiet asks that run's driver. Each event
-/// is put in its session's seat of the run by its thread; the seats of a run are in the order of their sessions. What ends one
-/// run early ends no other, and a thread's start that is refused ends one. Of more runs than 64 the others come to no end.
-/// Where memory is refused for what the runs have in common, nothing has run. The type says which orders the drivers' are.
+/// Serves the runs, and puts what is kept of them in order, where the type says what waits and what is kept.
+fn run_kept<
+    E: Engine + Send,
+    S: SeatAt<E> + Send,
+    O: Orderings + Send,
+    D: Drives<E> + Send + Drop,
+    T: Drop,
+    B: Keeping<Opened<E, D>, T>,
+    K: Keeper<E, S, T>,
+    G: Gate,
+    R: Threads + Wait + Sync,
+>(
+    rt: &R,
+    alloc: Global,
+    sessions: u32,
+    runs: Vec<Opened<E, D>>,
+    keeper: &K,
+    gate: &G,
+) -> Result<Vec<T>, AllocError>
+    requires few { sessions ≤ MOST_SESSIONS }
+    requires serves { Serves E.engine D.order_after D.follows O.orders (K.is_ready keeper.now) (K.ends keeper.now) (K.keeps keeper.now) B.waits B.kept }
+    requires waits { EachFrom B.waits 0 runs.items }
+    requires kept { (place : ℕ) (item : T) → B.kept place item → K.keeps keeper.now place item }
+    ensures count { IfOk result (λ kept. length kept.items ≡ length runs.items) }
+    ensures kept { IfOk result (λ kept. EachFrom (K.keeps keeper.now) 0 kept.items) }
+{
+    let count = runs.len();
+    let all = Vec::with_capacity(alloc, count)?;
+    let kept = serve_runs::<E, S, O, D, T, B, K, G, R>(rt, alloc, sessions, runs, keeper, gate)?;
+    Ok(in_order(keeper, kept, count, all))
+}
+
+/// Runs what drivers order, each event in its session's own thread, which all runs have in common; the calling thread is the
+/// control session's. No more than 24 runs are in flight at a time: one that is over is replaced by the next that waits, so the
+/// threads start once. The keeper says what is kept of each, in the calling thread, as soon as it is over; what is kept is answered
+/// in the order of the runs. A thread does one event in each run in which it is its session's turn, at an
+/// open gate all that are its to do there, and then hands those runs on. The thread whose event left an engine quiet asks that
+/// run's driver. Each event is put in its session's seat of the run by its thread; the seats of a run are in the order of their
+/// sessions. What ends one run early ends no other. A run for whose seats memory is refused is lost, and for each start of a thread that is
+/// refused the first run that waits. Where memory is refused for what the runs have in common, nothing has run. The type says
+/// which orders the drivers' are.
 pub fn run_crew<
     E: Engine + Send,
     S: SeatAt<E> + Send,
     O: Orderings + Send,
     D: Drives<E> + Send + Drop,
+    T: Drop,
+    K: Keeper<E, S, T>,
     G: Gate,
     R: Threads + Wait + Sync,
 >(
     rt: &R,
     alloc: Global,
     sessions: u32,
-    opened: Vec<Opened<E, D>>,
+    runs: Vec<Opened<E, D>>,
+    keeper: &K,
     gate: &G,
-) -> Result<Vec<Ended<E, S>>, AllocError>
-    requires few { sessions ≤ MOST_SESSIONS }
-    requires new { All (λ run. (E.engine run.engine).history ≡ []) opened.items }
-    requires orders { All (λ run. D.order_after run.driver ≡ O.orders run.place) opened.items }
-    requires follows { All (λ run. D.follows run.driver []) opened.items }
-    ensures count { IfOk result (λ ended. length ended.items ≡ length opened.items) }
-    ensures quiet { IfOk result (λ ended. All (λ over. over.run.late ≡ None → is_quiet_in (E.engine over.run.engine).machine ≡ true) ended.items) }
-    ensures driven { IfOk result (λ ended. All (λ over. over.run.late ≡ None → IsDriven (O.orders over.place) (E.engine over.run.engine).history) ended.items) }
-    ensures late { IfOk result (λ ended. All (λ over. IfSome over.run.late (λ fault. fault ≡ ThreadFault.Engine EngineFault.NotYourTurn)) ended.items) }
-    ensures may { IfOk result (λ ended. All (λ over. IfSome over.run.met (MayMeet (O.orders over.place) (E.engine over.run.engine))) ended.items) }
+) -> Result<Vec<T>, AllocError>
+    requires { MayServe E.engine D.order_after D.follows O.orders (K.is_ready keeper.now) (K.ends keeper.now) sessions runs.items }
+    ensures count { IfOk result (λ kept. length kept.items ≡ length runs.items) }
+    ensures kept { IfOk result (λ kept. EachFrom (K.keeps keeper.now) 0 kept.items) }
 {
-    let room = room_for::<E, S, O, D>(alloc, sessions, opened.len())?;
-    Ok(run_in(rt, alloc, room, opened, gate))
+    run_kept::<E, S, O, D, T, Brand, K, G, R>(rt, alloc, sessions, runs, keeper, gate)
 }

@@ -2,19 +2,27 @@
 //! driver orders and that are served side by side, and in a free run.
 #![tactic(auto)]
 
-mod columns;
+mod alone;
+mod counter;
 mod crew;
 mod directed;
 mod driven;
+mod ending;
 mod free;
 mod free_run;
 mod free_shared;
 mod joined;
+mod keeper;
 mod progress;
+mod queue;
+mod served;
 mod shared;
+mod slot;
 
-pub use directed::{Ended, run_crew};
+pub use alone::run_one;
+pub use directed::run_crew;
 pub use driven::Drives;
 pub use free::run_scripts;
 pub use joined::Joined;
+pub use keeper::Keeper;
 pub use shared::Opened;

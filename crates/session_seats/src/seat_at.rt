@@ -7,12 +7,8 @@ ghost use Rattle.session_seats.specs.Free.{last_item};
 ghost use Rattle.session_seats.specs.Seats.{SeatOf, empty_seat};
 
 use crate::fault::ThreadFault;
-use crate::seat::Seat;
-use session_machine::{Answers, Engine, Event, HistItem};
+use session_machine::{Engine, Event, HistItem};
 use std::alloc::Global;
-
-/// For how many events a seat makes room at its first one: most sessions of a permutation have no more.
-const ROOM: usize = 8;
 
 /// What a session's thread does with its seat and the engine at which it has it.
 pub trait SeatAt<E: Engine>: Drop {
@@ -38,34 +34,4 @@ pub trait SeatAt<E: Engine>: Drop {
     /// What came last.
     fn last(&self) -> Option<&HistItem<'_>>
         ensures { option_copied result ≡ last_item (seat self.now) };
-}
-
-impl<'t, E: Answers<'t>> SeatAt<E> for Seat<'t> {
-    ghost seat = { λ s. s };
-
-    fn empty(alloc: Global, session: u32) -> Self {
-        Seat::new(alloc, session)
-    }
-
-    fn session(&self) -> u32 {
-        Seat::session(self)
-    }
-
-    fn act(&mut self, engine: &mut E, event: Event) -> Result<(), ThreadFault> {
-        let room = if self.items.is_empty() { ROOM } else { 1 };
-        if self.items.try_reserve(room).is_err() {
-            return Err(ThreadFault::Memory);
-        }
-        match engine.ask(event) {
-            Ok(reply) => {
-                self.items.push(HistItem { event, reply }).unwrap();
-                Ok(())
-            }
-            Err(fault) => Err(ThreadFault::Engine(fault)),
-        }
-    }
-
-    fn last(&self) -> Option<&HistItem<'_>> {
-        self.items.last()
-    }
 }

@@ -1,5 +1,5 @@
 -- What stopped a run may stop it.
-use Rattle.std.proofs.Common.{◌≡◌, ◌∙◌, ℕ, List, Bool, true, false, refl, sym, ap, subst, Option, Some, None}
+use Rattle.std.proofs.Common.{◌≡◌, ◌∙◌, ℕ, List, Bool, true, false, true≢false, refl, sym, ap, subst, Option, Some, None}
 use Rattle.std.specs.Prelude.{IfErr, IfSome, Result, Ok, Err, if◌then◌else◌}
 use Rattle.session_machine.specs.declared.event.Mode.{Mode}
 use Rattle.session_machine.specs.declared.event.Mode.TheVariants.{Directed}
@@ -13,6 +13,8 @@ use Rattle.session_seats.specs.declared.fault.ThreadFault.TheVariants as thread_
 use Rattle.session_seats.specs.Orders.{Orders}
 use Rattle.session_seats.specs.Refusals.{CannotGoOn, IsStuck, IsUndone, MayMeet, MayStop}
 use Rattle.session_seats.specs.Seats.{SeatOf}
+use Rattle.session_crews.specs.Inner.Shared.{is_outside}
+use Rattle.session_threads.specs.Crews.{CameBy}
 use Rattle.session_threads.specs.Seats.{IsMisfit}
 use Rattle.session_threads.specs.Inner.Met.{is_refusal, told_of, told_of_another}
 
@@ -130,3 +132,25 @@ met_told true (Some f) told result is all = λ _. subst (λ (m : Option ThreadFa
 met_told false (Some f) told result is all = λ no.
     let same : told ≡ Some f = is ∙ ap (λ (b : Bool). Some (if b then thread_faults.OtherRun else f)) no in
     subst (λ (m : Option ThreadFault). IfSome m (λ f. result ≡ Err f)) same all
+
+lost_engine : (orders : Orders) (blocks : Blocks) (count : ℕ) (f : EngineFault) → is_outside (thread_faults.Engine f) ≡ true → MayStop orders blocks count (thread_faults.Engine f)
+lost_engine orders blocks count engine_faults.NotYourTurn is = tt
+lost_engine orders blocks count engine_faults.Memory is = tt
+lost_engine orders blocks count engine_faults.Busy is = absurd (true≢false (sym is))
+lost_engine orders blocks count engine_faults.StillBlocked is = absurd (true≢false (sym is))
+lost_engine orders blocks count engine_faults.Idle is = absurd (true≢false (sym is))
+lost_engine orders blocks count engine_faults.Spent is = absurd (true≢false (sym is))
+lost_engine orders blocks count engine_faults.NoSession is = absurd (true≢false (sym is))
+lost_engine orders blocks count engine_faults.BlockNotAllowed is = absurd (true≢false (sym is))
+
+lost_so : (orders : Orders) (blocks : Blocks) (count : ℕ) (f : ThreadFault) → is_outside f ≡ true → MayStop orders blocks count f
+lost_so orders blocks count thread_faults.ThreadRefused is = tt
+lost_so orders blocks count thread_faults.Gate is = tt
+lost_so orders blocks count thread_faults.Memory is = tt
+lost_so orders blocks count thread_faults.OtherRun is = tt
+lost_so orders blocks count (thread_faults.SeatMismatch session) is = tt
+lost_so orders blocks count (thread_faults.Engine f) is = lost_engine orders blocks count f is
+
+-- a run that never began, for a fault that says nothing of its engine, came to its end so
+pub lost : (orders : Orders) (blocks : Blocks) (count : ℕ) (fault : ThreadFault) → is_outside fault ≡ true → CameBy blocks count orders (Err fault)
+lost orders blocks count fault is = record { ran = tt; stopped = lost_so orders blocks count fault is }

@@ -1,3 +1,2 @@
 -- Definitions that only the inner functions' clauses and the proofs need: no clause of a public function has them.
-pub mod Places
 pub mod Met

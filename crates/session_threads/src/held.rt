@@ -2,7 +2,7 @@
 
 use row_versions::Versions;
 use session_core::EngineState;
-use session_machine::{Answers, Engine, EngineFault, Event, Reply, Turn};
+use session_machine::{Engine, Turn};
 
 /// An engine whose drop is written out, so that a crate that drops one calls it, and needn't prove anew how each of the engine's
 /// parts is dropped.
@@ -34,11 +34,5 @@ impl<'a, 't, V: Versions> Engine for Held<'a, 't, V> {
 
     fn quiet(&self) -> bool {
         self.state.quiet()
-    }
-}
-
-impl<'a, 't, V: Versions> Answers<'t> for Held<'a, 't, V> {
-    fn ask(&mut self, event: Event) -> Result<Reply<'t>, EngineFault> {
-        self.state.ask(event)
     }
 }

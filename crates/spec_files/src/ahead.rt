@@ -31,8 +31,8 @@ const MOST_BUSY: usize = 16;
 /// How many threads crews have together, where it is more than one.
 const MOST_THREADS: usize = 64;
 
-/// How many permutations one crew serves, at most: each thread that is started takes time, and what wakes one serves many.
-const MOST_TOGETHER: usize = 64;
+/// How many permutations run ahead of their turn, at most: threads start once for so many, and the drafts of so many are in memory.
+const MOST_AHEAD: u64 = 1024;
 
 /// No crew is given fewer where so many are left.
 const LEAST_TOGETHER: usize = 8;
@@ -72,20 +72,11 @@ fn crews_for<R: Threads + Wait>(rt: &R, alloc: Global, spec: &Spec<'_>) -> usize
     at_a_time(spec.sessions.len(), wanted)
 }
 
-/// How many permutations run ahead of their turn by so many crews, at most.
-fn most_ahead(crews: usize) -> u64
-    ensures { (0 < result) × (result ≤ 1024) }
-{
-    crews.clamp(1, MOST_BUSY) as u64 * MOST_TOGETHER as u64
-}
-
 /// How many of so many permutations one crew serves: they are dealt out evenly, few of them to fewer crews.
 fn together(permutations: usize, crews: usize) -> usize
-    ensures { (0 < result) × (result ≤ 64) }
+    ensures { 0 < result }
 {
-    permutations
-        .div_ceil(crews.max(1))
-        .clamp(LEAST_TOGETHER, MOST_TOGETHER)
+    permutations.div_ceil(crews.max(1)).max(LEAST_TOGETHER)
 }
 
 /// The drafts of the permutations whose turn comes next, the permutations behind them, how many of all these may run, and by how
@@ -211,7 +202,7 @@ impl<'s> Ahead<'s> {
             None => crews_for(rt, alloc, &file.spec),
         };
         self.crews = Some(crews);
-        let most = self.left.min(most_ahead(crews));
+        let most = self.left.min(MOST_AHEAD);
         let taken = take_next(alloc, &mut self.behind, most)?;
         let together = together(taken.len(), crews);
         self.drafts = drafts_of(rt, alloc, file, run, taken, together)?.into();

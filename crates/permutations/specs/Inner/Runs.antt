@@ -33,8 +33,8 @@ pub record RanSo (spec : SpecTree) (blocks : Blocks) (entries : List EntryTree) 
   pub ran : IfOk run (RanAs spec blocks entries)
   pub stopped : IfErr run (MayStop (due_in spec entries) blocks (length spec.sessions))
 
--- each of these runs is one of the permutation at its place; there may be fewer runs
-abbrev pub RanAsEach : SpecTree → Blocks → List (Vec Entry) → List (Result ClosedOf ThreadFault) → Type 0
-RanAsEach spec blocks taken [] = Unit {0}
-RanAsEach spec blocks [] (run ∷ runs) = ⊥
-RanAsEach spec blocks (entries ∷ taken) (run ∷ runs) = RanSo spec blocks (perm_view entries) run × RanAsEach spec blocks taken runs
+-- each of these reports is one of the permutation at its place; there may be fewer reports
+abbrev pub AreReports : {R : Type 0} → (Vec Entry → R → Type 0) → List (Vec Entry) → List R → Type 0
+AreReports reports taken [] = Unit {0}
+AreReports reports [] (report ∷ behind) = ⊥
+AreReports reports (entries ∷ taken) (report ∷ behind) = reports entries report × AreReports reports taken behind

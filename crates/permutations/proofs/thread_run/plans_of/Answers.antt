@@ -3,7 +3,7 @@ use Rattle.std.proofs.lemmas.List.{length_push}
 use Rattle.std.proofs.lemmas.Grind.{common_steps}
 use Rattle.std.proofs.lemmas.Option.{gets}
 use Rattle.row_versions.specs.Log.{empty_content}
-use Rattle.session_threads.specs.declared.directed.Run.{Run}
+use Rattle.session_threads.specs.declared.opening.Run.{Run}
 use Rattle.chain_store.specs.declared.chain_store.ChainStore.{ChainStore}
 use Rattle.permutations.specs.declared.driver.Plan.{Plan}
 use Rattle.spec_parser.specs.Trees.{entry_view, perm_view, spec_view}

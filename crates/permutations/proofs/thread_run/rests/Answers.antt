@@ -6,6 +6,6 @@ use Rattle.permutations.proofs.Running.{rests}
 use Rattle.permutations.proofs.thread_run.rests.Goals as goal
 
 pub returns : goal.returns
-returns c =
+returns g c =
     let same = c.state-engine.ensures in
     subst IsAtRest same (rests c.state-engine.result.now (subst (λ (e : Engine). is_quiet_in e.machine ≡ true) (sym same) c.requires) c.history.ensures.leads)
