@@ -1,6 +1,7 @@
 -- What is next in an engine, and what stands of a fault that was met there.
 use Rattle.std.proofs.Common.{◌≡◌, ◌<◌, ◌⊎◌, inl, inr, refl, sym, ap, subst, ◌∙◌, ℕ, true, true≢false, [], Option, Some, None}
 use Rattle.std.specs.Prelude.{is_none, IfSome, Result, Ok, Err}
+use Rattle.std.specs.Option.{option_or}
 use Rattle.session_machine.specs.declared.event.Event.{Event}
 use Rattle.session_machine.specs.declared.event.Event.TheVariants.{Launch, Step, Leave}
 use Rattle.session_machine.specs.declared.event.Order.{Order}
@@ -134,3 +135,11 @@ outside orders e thread_faults.OtherRun is = absurd (true≢false (sym is))
 pub outside_start : (f : ThreadFault) → (f ≡ thread_faults.Memory) ⊎ (f ≡ thread_faults.ThreadRefused) → is_outside f ≡ true
 outside_start f (inl is) = ap is_outside is
 outside_start f (inr is) = ap is_outside is
+
+-- where none was met before, what the engine refused is what was met
+pub told_first : (event : Event) (before after was is : Engine) (old new : Option ThreadFault) (fault : ThreadFault) → was ≡ before → is ≡ after → old ≡ None → new ≡ option_or old (Some fault)
+    → NotActed event before fault after → IfSome new (λ f. NotActed event was f is)
+told_first event before after was is old new fault from to none noted refused =
+    let first : new ≡ Some fault = noted ∙ ap (λ (o : Option ThreadFault). option_or o (Some fault)) none in
+    let here : NotActed event was fault is = subst (λ (e : Engine). NotActed event e fault is) (sym from) (subst (λ (e : Engine). NotActed event before fault e) (sym to) refused) in
+    subst (λ (o : Option ThreadFault). IfSome o (λ f. NotActed event was f is)) (sym first) here

@@ -1,4 +1,7 @@
 //! What a session's thread does in the runs of a crew.
+ghost use Rattle.std.specs.Prelude.{◌≡◌};
+ghost use Rattle.session_crews.specs.Inner.Shared.{handed};
+
 use crate::driven::Drives;
 use crate::shared::Hand;
 use crate::slot::Slot;
@@ -20,10 +23,13 @@ pub struct Room<'g, E: Engine, S, O: Orderings, D: Drives<E>, G> {
 }
 
 /// Notes who looks at the run at this place next.
-pub fn hand_to(hands: &mut [u64], place: usize, hand: Hand) {
+pub fn hand_to(hands: &mut [u64], place: usize, hand: Hand)
+    ensures { hands.new ≡ handed hands.old place hand }
+{
     if let Hand::Session(session) = hand {
-        if let Some(runs) = hands.get_mut(session as usize) {
-            *runs |= bit_of(place);
+        let at = session as usize;
+        if at < hands.len() {
+            hands[at] |= bit_of(place);
         }
     }
 }

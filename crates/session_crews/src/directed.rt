@@ -1,5 +1,5 @@
 //! Runs that a crew serves side by side, in each of which a driver says what is given to whom.
-ghost use Rattle.std.specs.Prelude.{◌≡◌, ◌≤◌, ℕ, All, IfOk, IfSome, length};
+ghost use Rattle.std.specs.Prelude.{◌≡◌, ◌≤◌, ℕ, All, IfOk, IfSome, length, vec_len};
 ghost use Rattle.iso_lexer.specs.declared.limits.TheConstants.{MOST_SESSIONS};
 ghost use Rattle.session_crews.specs.Crews.{EachFrom, MayServe};
 ghost use Rattle.session_crews.specs.Inner.Queue.{Serves};
@@ -148,7 +148,9 @@ fn in_order<E, S, T: Drop, K: Keeper<E, S, T>>(
 fn slots_for<E: Engine, S: SeatAt<E>, O: Orderings, D: Drives<E> + Drop>(
     alloc: Global,
     count: usize,
-) -> Result<Vec<Slot<E, S, O, D>>, AllocError> {
+) -> Result<Vec<Slot<E, S, O, D>>, AllocError>
+    ensures { IfOk result (λ slots. vec_len slots ≡ count) }
+{
     let mut slots = Vec::with_capacity(alloc, count)?;
     for _ in 0..count {
         slots.push(Slot::empty())?;
@@ -167,7 +169,9 @@ fn serve_in_scope<
     K: Keeper<E, S, T>,
     G: Gate,
     R: Threads + Wait + Sync,
->(rt: &R, room: &Room<'_, E, S, O, D, G>, counter: &mut Counter<'_, E, S, O, D, T, B, K>) {
+>(rt: &R, room: &Room<'_, E, S, O, D, G>, counter: &mut Counter<'_, E, S, O, D, T, B, K>)
+    requires few { vec_len room.now.slots ≤ 24 }
+{
     thread::scope(thread::scope_env(), rt, move |scope| {
         serve_in(scope, rt, room, counter)
     });

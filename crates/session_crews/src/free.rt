@@ -1,10 +1,10 @@
 //! A run in which each session's thread runs the session's script, with no order between sessions.
-ghost use Rattle.std.specs.Prelude.{◌≡◌, ◌≤◌, ◌⊎◌, [], true, false, None, is_some, length, vec_len, IfErr, IfOk};
+ghost use Rattle.std.specs.Prelude.{◌≡◌, ◌≤◌, ◌⊎◌, [], true, false, None, Some, is_some, length, vec_len, IfErr, IfOk, IfSome};
 ghost use Rattle.iso_lexer.specs.declared.limits.TheConstants.{MOST_SESSIONS};
 ghost use Rattle.session_seats.specs.Acts.{IsRunOf};
 ghost use Rattle.session_seats.specs.Free.{scripts_in};
 ghost use Rattle.session_seats.specs.FreeRuns.{FitsPlan, IsCutShort};
-ghost use Rattle.session_crews.specs.Inner.FreeRuns.{AllDone, AreAtStart, DidLast, IsSetUp, Left};
+ghost use Rattle.session_crews.specs.Inner.FreeRuns.{AllDone, AreAtStart, DidLast, HaveDone, IsSetUp, Left};
 
 use crate::free_run::{FreeRun, run_block};
 use crate::free_shared::{FreeShared, run_script, stop};
@@ -234,6 +234,7 @@ fn joined_of<E: Engine, S: Drop, P: Scripting>(
 ) -> Joined<E, S>
     ensures of { IsRunOf P.start (E.engine result.engine) }
     ensures met { result.met ≡ shared.entry.fault }
+    ensures late { HaveDone shared.entry.progress → result.late ≡ None }
     ensures done { result.met ≡ None → result.late ≡ None → AllDone P.start P.scripts (E.engine result.engine) }
 {
     let (run, done) = shared.into_parts();
@@ -275,6 +276,8 @@ fn run_last<E: Engine, S: SeatAt<E>, R: Wait>(
 ) -> Joined<E, S>
     ensures of { IsRunOf (E.engine joined.engine) (E.engine result.engine) }
     ensures met { result.met ≡ joined.met }
+    ensures cut { IfSome joined.met (λ _. (E.engine result.engine ≡ E.engine joined.engine) × (result.late ≡ joined.late)) }
+    ensures late { IfSome joined.late (λ fault. (E.engine result.engine ≡ E.engine joined.engine) × (result.late ≡ Some fault)) }
     ensures done { result.met ≡ None → result.late ≡ None → DidLast after.now (E.engine joined.engine) (E.engine result.engine) × (joined.late ≡ None) }
 {
     let Joined {

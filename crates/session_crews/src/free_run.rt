@@ -2,7 +2,7 @@
 ghost use Rattle.std.specs.Prelude.{◌≡◌, true, None, Some, is_some, IfNone, IfSome};
 ghost use Rattle.std.specs.Option.{option_or};
 ghost use Rattle.session_machine.specs.Machine.{session_of};
-ghost use Rattle.session_seats.specs.Acts.{IsRunOf};
+ghost use Rattle.session_seats.specs.Acts.{IsRunOf, NotActed};
 ghost use Rattle.session_crews.specs.Inner.FreeRuns.{Did, RanBlock};
 
 use session_machine::{Engine, EngineFault, Event};
@@ -35,6 +35,7 @@ impl<E: Engine> FreeRun<E> {
         ensures done { IfSome result (λ state. Did event (E.engine self.old.engine) (E.engine self.new.engine) state × (self.new.fault ≡ None)) }
         ensures over { IfNone result (is_some self.new.fault ≡ true) }
         ensures first { IfSome self.old.fault (λ fault. self.new.fault ≡ Some fault) }
+        ensures told { self.old.fault ≡ None → IfSome self.new.fault (λ fault. NotActed event (E.engine self.old.engine) fault (E.engine self.new.engine)) }
     {
         if self.fault.is_some() {
             return None;

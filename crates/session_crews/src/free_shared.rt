@@ -2,7 +2,9 @@
 ghost use Rattle.std.specs.Prelude.{◌≡◌, true, None, Some, is_some, length, IfNone, IfSome};
 ghost use Rattle.std.specs.Option.{option_or};
 ghost use Rattle.session_machine.specs.Machine.{session_of};
-ghost use Rattle.session_seats.specs.Acts.{IsRunOf};
+ghost use Rattle.session_machine.specs.declared.event.Event.{Event as EventOf};
+ghost use Rattle.session_seats.specs.Acts.{IsRunOf, NotActed};
+ghost use Rattle.session_seats.specs.Free.{last_item, may_release};
 ghost use Rattle.session_crews.specs.Inner.FreeRuns.{AllDone, AreAtStart, HaveDone, IsNextOf, NothingIsNextOf};
 
 use crate::free_run::FreeRun;
@@ -83,6 +85,7 @@ impl<'p, E: Engine, P: Scripting> FreeShared<'p, E, P> {
         ensures own { IfSome result (λ event. session_of event ≡ session) }
         ensures next { IfSome result (λ event. IsNextOf self.now.progress session event) }
         ensures none { IfNone result (NothingIsNextOf self.now.progress session) }
+        ensures exact { (event : EventOf) → IsNextOf self.now.progress session event → result ≡ Some event }
     {
         match session {
             0 => None,
@@ -95,7 +98,8 @@ impl<'p, E: Engine, P: Scripting> FreeShared<'p, E, P> {
 
     /// Whether the event is what the session does next.
     fn is_due(&self, session: u32, event: Event) -> bool
-        ensures { result ≡ true → IsNextOf self.now.progress session event }
+        ensures is { result ≡ true → IsNextOf self.now.progress session event }
+        ensures exact { IsNextOf self.now.progress session event → result ≡ true }
     {
         self.due(session) == Some(event)
     }
@@ -106,6 +110,8 @@ impl<'p, E: Engine, P: Scripting> FreeShared<'p, E, P> {
         ensures session { (S.seat seat.new).session ≡ (S.seat seat.old).session }
         ensures over { result ≡ Tried.Over → is_some self.new.fault ≡ true }
         ensures first { IfSome self.old.fault (λ fault. self.new.fault ≡ Some fault) }
+        ensures told { self.old.fault ≡ None → IsNextOf self.old.progress (S.seat seat.old).session event
+            → IfSome self.new.fault (λ fault. NotActed event self.old.engine fault self.new.engine) }
     {
         if self.over() {
             return Tried::Over;
@@ -136,6 +142,7 @@ impl<'p, E: Engine, P: Scripting> FreeShared<'p, E, P> {
         ensures same { (E.engine result.0.engine ≡ self.entry.engine) × (result.0.fault ≡ self.entry.fault) }
         ensures of { IsRunOf P.start self.entry.engine }
         ensures done { result.1 ≡ true → self.entry.fault ≡ None → AllDone P.start P.scripts self.entry.engine }
+        ensures all { HaveDone self.entry.progress → result.1 ≡ true }
     {
         let done = all_done(&self.progress);
         let run = FreeRun {
@@ -148,7 +155,8 @@ impl<'p, E: Engine, P: Scripting> FreeShared<'p, E, P> {
 
 /// Whether each session has done its script.
 fn all_done(progress: &[Progress<'_>]) -> bool
-    ensures { result ≡ true → HaveDone progress.now }
+    ensures done { result ≡ true → HaveDone progress.now }
+    ensures all { HaveDone progress.now → result ≡ true }
 {
     for each in progress {
         if !each.is_done() {
@@ -169,6 +177,18 @@ pub fn stop<E: Engine, P: Scripting, R: Wait>(
     bell.notify_all();
 }
 
+/// Whether those who sleep are woken behind an event that was tried: where it may have released something, or the run is over.
+fn wakes<E: Engine, S: SeatAt<E>>(tried: Tried, seat: &S) -> bool
+    ensures over { tried ≡ Tried.Over → result ≡ true }
+    ensures done { tried ≡ Tried.Done → result ≡ may_release (last_item (S.seat seat.now)) }
+{
+    match tried {
+        Tried::Done => may_release(seat.last()),
+        Tried::Blocked { .. } => false,
+        Tried::Over => true,
+    }
+}
+
 /// Tries an event under the lock. Wakes those who sleep where something may have been released, or the run is over.
 fn try_event<E: Engine, S: SeatAt<E>, P: Scripting, R: Wait>(
     rt: &R,
@@ -183,12 +203,7 @@ fn try_event<E: Engine, S: SeatAt<E>, P: Scripting, R: Wait>(
     let mut guard = shared.lock(rt);
     let tried = guard.perform(seat, event);
     drop(guard);
-    let wakes = match tried {
-        Tried::Done => may_release(seat.last()),
-        Tried::Blocked { .. } => false,
-        Tried::Over => true,
-    };
-    if wakes {
+    if wakes::<E, S>(tried, seat) {
         bell.notify_all();
     }
     tried

@@ -1,6 +1,7 @@
 //! A run that a crew serves, with its seats.
-ghost use Rattle.std.specs.Prelude.{◌≤◌};
+ghost use Rattle.std.specs.Prelude.{◌≡◌, ◌≤◌, ◌-◌, ◌==◌, ◌&&◌, true, false};
 ghost use Rattle.session_crews.specs.Crews.{IsNew};
+ghost use Rattle.session_crews.specs.Inner.Shared.{at_hand, hand_of, hand_with, is_over};
 ghost use Rattle.iso_lexer.specs.declared.limits.TheConstants.{MOST_SESSIONS};
 
 use crate::driven::Drives;
@@ -48,12 +49,16 @@ impl<E: Engine, S: SeatAt<E>, O: Orderings, D: Drives<E> + Drop> Served<E, S, O,
     }
 
     /// Whether it is over, and all its seats are there.
-    pub fn is_done(&self) -> bool {
+    pub fn is_done(&self) -> bool
+        ensures { result ≡ (is_over self.now.shared && (self.now.lent == 0)) }
+    {
         self.shared.over() && self.lent == 0
     }
 
     /// Who looks at it next: the control session where it is done, nobody where that is still to come of a seat.
-    pub fn hand(&self) -> Hand {
+    pub fn hand(&self) -> Hand
+        ensures { result ≡ hand_with self.now.lent (hand_of (is_over self.now.shared) (at_hand self.now.shared)) }
+    {
         match self.shared.hand() {
             Hand::Nobody if self.lent == 0 => Hand::Session(0),
             hand => hand,
@@ -90,11 +95,21 @@ impl<E: Engine, S: SeatAt<E>, O: Orderings, D: Drives<E> + Drop> Served<E, S, O,
         Some(replace(seat, S::empty(alloc, session)))
     }
 
-    /// Takes a seat back that was lent.
-    pub fn take_back(&mut self, session: u32, seat: S) {
+    /// Takes a seat back that was lent. Says who looks at the run then, where it is done with that.
+    pub fn take_back(&mut self, session: u32, seat: S) -> Hand
+        ensures shared { self.new.shared ≡ self.old.shared }
+        ensures lent { self.new.lent ≡ self.old.lent - 1 }
+        ensures done { (is_over self.new.shared && (self.new.lent == 0)) ≡ true → result ≡ Hand.Session 0 }
+        ensures not_done { (is_over self.new.shared && (self.new.lent == 0)) ≡ false → result ≡ Hand.Nobody }
+    {
         if let Some(place) = self.seats.get_mut(session as usize) {
             *place = seat;
         }
         self.lent = self.lent.saturating_sub(1);
+        if self.is_done() {
+            self.hand()
+        } else {
+            Hand::Nobody
+        }
     }
 }

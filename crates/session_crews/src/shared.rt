@@ -1,13 +1,16 @@
 //! What stands behind the lock of a directed run.
-ghost use Rattle.std.specs.Prelude.{◌≡◌, ◌||◌, ◌⊎◌, ◌<◌, ◌≤◌, true, false, [], None, Some, IfSome, is_some};
+ghost use Rattle.std.specs.Prelude.{◌≡◌, ◌≢◌, ◌↔◌, ◌⊎◌, ◌<◌, ◌≤◌, true, false, [], None, Some, IfSome, IsTrue};
 ghost use Rattle.std.specs.Option.{option_or};
 ghost use Rattle.session_machine.specs.Machine.{session_of};
+ghost use Rattle.session_machine.specs.Engine.{is_quiet_in};
+ghost use Rattle.session_crews.specs.Inner.Shared.{Stands, at_hand, hand_of, is_over, own_of};
+ghost use Rattle.session_seats.specs.Acts.{Acted, NotActed};
 ghost use Rattle.session_seats.specs.Orders.{IsDriven};
 ghost use Rattle.session_seats.specs.Refusals.{IsNextIn, MayMeet};
 
 use crate::driven::Drives;
 use session_machine::{Engine, EngineFault, Event, Order, Turn};
-use session_seats::{Orderings, SeatAt, ThreadFault};
+use session_seats::{Orderings, SeatAt, ThreadFault, number_of};
 use std::alloc::Global;
 use std::marker::{Model, PhantomData};
 
@@ -82,27 +85,34 @@ impl<E: Engine, O: Orderings, D: Drives<E>> Shared<E, O, D> {
 
     /// No event is to begin any more.
     pub fn over(&self) -> bool
-        ensures { result ≡ (self.now.stop || is_some self.now.fault) }
+        ensures { result ≡ is_over self.now }
     {
         self.stop || self.fault.is_some()
     }
 
+    /// The event that comes next: the order that was given, or else the Step of the session whose turn it is.
+    fn at_hand(&self) -> Option<Event>
+        ensures is { result ≡ at_hand self.now }
+        ensures next { IfSome result (IsNextIn (O.orders self.now.place) self.now.engine) }
+    {
+        if self.over() {
+            return None;
+        }
+        match (self.order, self.engine.turn()) {
+            (Some(event), _) => Some(event),
+            (None, Turn::Session(session)) => Some(Event::Step { session }),
+            _ => None,
+        }
+    }
+
     /// The event that the session is to do now, where the run goes on.
     pub fn due(&self, session: u32) -> Option<Event>
-        ensures { IfSome result (λ e. session_of e ≡ session) }
+        ensures is { result ≡ own_of session (at_hand self.now) }
+        ensures own { IfSome result (λ e. session_of e ≡ session) }
     {
-        match self.order {
-            _ if self.over() => None,
-            Some(Event::Launch { session: s, block }) => {
-                (s == session).then_some(Event::Launch { session: s, block })
-            }
-            Some(Event::Leave { session: s }) => {
-                (s == session).then_some(Event::Leave { session: s })
-            }
-            Some(Event::Step { .. }) => None,
-            None => {
-                (self.engine.turn() == Turn::Session(session)).then_some(Event::Step { session })
-            }
+        match self.at_hand() {
+            Some(event) if number_of(event) == session => Some(event),
+            _ => None,
         }
     }
 
@@ -120,8 +130,8 @@ impl<E: Engine, O: Orderings, D: Drives<E>> Shared<E, O, D> {
     fn give(&mut self, session: u32, event: Event)
         requires own { session_of event ≡ session }
         requires next { IsNextIn (O.orders self.old.place) self.old.engine event }
-        ensures there { session ≤ self.old.engine.count → self.new.fault ≡ self.old.fault }
-        ensures not_there { self.old.engine.count < session → self.new.fault ≡ option_or self.old.fault (Some (ThreadFault.Engine EngineFault.NoSession)) }
+        ensures there { session ≤ self.old.engine.count → self.new ≡ record self.old { order = Some event } }
+        ensures not_there { self.old.engine.count < session → self.new ≡ record self.old { fault = option_or self.old.fault (Some (ThreadFault.Engine EngineFault.NoSession)) } }
         ensures fault { IfSome self.new.fault (λ fault. (self.old.fault ≡ Some fault) ⊎ (fault ≡ ThreadFault.Engine EngineFault.NoSession)) }
     {
         if session > self.engine.sessions() {
@@ -135,6 +145,9 @@ impl<E: Engine, O: Orderings, D: Drives<E>> Shared<E, O, D> {
     pub fn ask(&mut self)
         ensures first { IfSome self.old.fault (λ fault. self.new.fault ≡ Some fault) }
         ensures fault { IfSome self.new.fault (λ fault. (self.old.fault ≡ Some fault) ⊎ ((fault ≡ ThreadFault.Memory) ⊎ (fault ≡ ThreadFault.Engine EngineFault.NoSession))) }
+        ensures asked { is_over self.old ≡ false → self.old.order ≡ None → is_quiet_in self.old.engine.machine ≡ true → self.new.fault ≡ None
+            → Stands (O.orders self.old.place self.old.engine.history) self.new }
+        ensures same { (self.new.engine ≡ self.old.engine) × (self.new.place ≡ self.old.place) }
     {
         if self.over() || self.order.is_some() || !self.engine.quiet() {
             return;
@@ -149,15 +162,12 @@ impl<E: Engine, O: Orderings, D: Drives<E>> Shared<E, O, D> {
         }
     }
 
-    /// Whether the event is the next one: a Step of the session whose turn it is, or the order that was given.
+    /// Whether the event is the next one.
     fn is_next(&self, event: Event) -> bool
-        requires { self.now.fault ≡ None }
-        ensures { result ≡ true → IsNextIn (O.orders self.now.place) self.now.engine event }
+        ensures is { IsTrue result ↔ (at_hand self.now ≡ Some event) }
+        ensures next { result ≡ true → IsNextIn (O.orders self.now.place) self.now.engine event }
     {
-        match event {
-            Event::Step { session } => self.engine.turn() == Turn::Session(session),
-            _ => self.order == Some(event),
-        }
+        self.at_hand() == Some(event)
     }
 
     /// Does the event, unless the run is over. One that comes out of turn ends the run. Says whether it was done.
@@ -165,7 +175,14 @@ impl<E: Engine, O: Orderings, D: Drives<E>> Shared<E, O, D> {
         requires { session_of event ≡ (S.seat seat.old).session }
         ensures session { (S.seat seat.new).session ≡ (S.seat seat.old).session }
         ensures first { IfSome self.old.fault (λ fault. self.new.fault ≡ Some fault) }
-        ensures over { result ≡ false → (self.new.stop || is_some self.new.fault) ≡ true }
+        ensures over { result ≡ false → is_over self.new ≡ true }
+        ensures late { is_over self.old ≡ true → self.new ≡ self.old }
+        ensures out_of_turn { is_over self.old ≡ false → at_hand self.old ≢ Some event
+            → self.new ≡ record self.old { fault = Some (ThreadFault.Engine EngineFault.NotYourTurn) } }
+        ensures given { at_hand self.old ≡ Some event → self.new.order ≡ None }
+        ensures stop { self.new.stop ≡ self.old.stop }
+        ensures done { result ≡ true → Acted event self.old.engine self.new.engine (S.seat seat.old) (S.seat seat.new) × (self.new.fault ≡ None) }
+        ensures told { at_hand self.old ≡ Some event → IfSome self.new.fault (λ fault. NotActed event self.old.engine fault self.new.engine) }
     {
         if self.over() {
             return false;
@@ -185,17 +202,14 @@ impl<E: Engine, O: Orderings, D: Drives<E>> Shared<E, O, D> {
         }
     }
 
-    /// Whose thread has something to do.
-    pub fn hand(&self) -> Hand {
-        match self.order {
-            _ if self.over() => Hand::Nobody,
-            Some(Event::Launch { session, .. }) | Some(Event::Leave { session }) => {
-                Hand::Session(session)
-            }
-            _ => match self.engine.turn() {
-                Turn::Session(session) => Hand::Session(session),
-                _ => Hand::Session(0),
-            },
+    /// Who looks at the run next: whose event comes next, or else the control session.
+    pub fn hand(&self) -> Hand
+        ensures { result ≡ hand_of (is_over self.now) (at_hand self.now) }
+    {
+        match self.at_hand() {
+            Some(event) => Hand::Session(number_of(event)),
+            None if self.over() => Hand::Nobody,
+            None => Hand::Session(0),
         }
     }
 }

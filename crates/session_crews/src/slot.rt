@@ -102,14 +102,7 @@ impl<E: Engine, S: SeatAt<E>, O: Orderings, D: Drives<E> + Drop> Slot<E, S, O, D
     /// Takes a session's seat back. Says who looks at the run then, where it is done with that.
     pub fn take_back<R: Wait>(&self, rt: &R, session: u32, seat: S) -> Hand {
         match &mut *self.run.lock(rt) {
-            Some(run) => {
-                run.take_back(session, seat);
-                if run.is_done() {
-                    run.hand()
-                } else {
-                    Hand::Nobody
-                }
-            }
+            Some(run) => run.take_back(session, seat),
             None => Hand::Nobody,
         }
     }

@@ -217,7 +217,9 @@ impl<'a, 't, V: Versions> Database<'a, 't, V> {
 
     /// The key is taken by this version, and the statement does nothing where it is.
     fn does_nothing(&self, work: &Work<'_>, version: &Seen) -> Result<Meets<'t>, AllocError>
-        ensures { IfOk result (λ met. meets_of met ≡ does_nothing self.now work.now version.now) }
+        ensures met { IfOk result (λ met. meets_of met ≡ does_nothing self.now work.now version.now) }
+        // At Read Committed nothing is looked up.
+        ensures memory { OnErr result (work.now.t.level ≡ Level.RepeatableRead) }
     {
         let is_passed = match work.by.level {
             Level::ReadCommitted => true,

@@ -1,5 +1,5 @@
 //! Which session's thread is to look at which runs of a crew, and who is woken.
-ghost use Rattle.std.specs.Prelude.{◌≡◌, ◌<◌, ◌≤◌, ◌^◌, bit_and, IfErr};
+ghost use Rattle.std.specs.Prelude.{◌≡◌, ◌+◌, ◌<◌, ◌≤◌, ◌^◌, bit_and, length, replicate, slice_get, vec_len, IfErr, IfOk, IfSome, IfNone};
 ghost use Rattle.iso_lexer.specs.declared.limits.TheConstants.{MOST_SESSIONS};
 
 use crate::fault::ThreadFault;
@@ -118,7 +118,8 @@ impl Board {
     /// For the control session and so many sessions beside it, and for so many runs.
     pub fn new(alloc: Global, sessions: u32, runs: usize) -> Result<Board, ThreadFault>
         requires { sessions ≤ MOST_SESSIONS }
-        ensures { IfErr result (λ fault. fault ≡ ThreadFault.Memory) }
+        ensures desks { IfOk result (λ board. vec_len board.desks ≡ sessions + 1) }
+        ensures err { IfErr result (λ fault. fault ≡ ThreadFault.Memory) }
     {
         let mut desks = Vec::new(alloc);
         for _ in 0..sessions + 1 {
@@ -151,19 +152,22 @@ impl Board {
 
     /// Puts what is handed to each session on its desk, and takes it out of the hands: the first are the control session's.
     /// Nobody has to be woken for what is handed to the own session: that is answered.
-    pub fn hand_on(&self, own: u32, hands: &mut [u64]) -> u64 {
+    pub fn hand_on(&self, own: u32, hands: &mut [u64]) -> u64
+        ensures kept { IfSome (slice_get hands.old own) (λ runs. result ≡ runs) }
+        ensures none { IfNone (slice_get hands.old own) (result ≡ 0) }
+        ensures emptied { hands.new ≡ replicate (length hands.old) 0 }
+    {
         let mut kept = 0;
-        let mut session = 0;
-        for (desk, hand) in self.desks.iter().zip(hands) {
-            let runs = *hand;
-            *hand = 0;
-            if session == own {
-                kept = runs;
-            } else if runs != 0 {
-                desk.put(runs);
-            }
-            session = session.wrapping_add(1);
+        if let Some(runs) = hands.get_mut(own as usize) {
+            kept = *runs;
+            *runs = 0;
         }
+        for (desk, runs) in self.desks.iter().zip(hands.iter()) {
+            if *runs != 0 {
+                desk.put(*runs);
+            }
+        }
+        hands.fill(0);
         kept
     }
 

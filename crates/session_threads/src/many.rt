@@ -2,6 +2,8 @@
 ghost use Rattle.std.specs.Prelude.{◌≡◌, ◌≤◌, ℕ, true, IfOk, Result, length};
 ghost use Rattle.iso_lexer.specs.declared.limits.TheConstants.{MOST_SESSIONS};
 ghost use Rattle.sql_blocks.specs.Blocks.{blocks_of};
+ghost use Rattle.session_machine.specs.declared.event.Mode.{Mode};
+ghost use Rattle.session_machine.specs.Engine.{opened};
 ghost use Rattle.session_seats.specs.declared.fault.ThreadFault.{ThreadFault as Fault};
 ghost use Rattle.session_crews.specs.Crews.{EachFrom, IsNew, IsOver};
 ghost use Rattle.session_threads.specs.Closing.{ClosedOf};
@@ -32,6 +34,7 @@ fn open_each<'a, 't, V: Versions, O: Orderings, D: Driver<V> + Drop>(
     requires waits { EachFrom (Waits V.content D.order_after D.follows O.orders) 0 runs.items }
     ensures count { IfOk result (λ all. length all.items ≡ length runs.items) }
     ensures new { IfOk result (λ all. EachFrom (λ place run. IsNew (O.orders run.place) run.engine.state (D.order_after run.driver.driver) (D.follows run.driver.driver)) 0 all.items) }
+    ensures of { IfOk result (λ all. EachFrom (λ _ run. run.engine.state ≡ opened (blocks_of blocks.now) sessions Mode.Directed) 0 all.items) }
 {
     let mut all = Vec::with_capacity(alloc, runs.len())?;
     for run in runs {

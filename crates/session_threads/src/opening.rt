@@ -1,6 +1,8 @@
 //! The beginning of a run of a crew.
-ghost use Rattle.std.specs.Prelude.{◌≤◌, IfOk};
+ghost use Rattle.std.specs.Prelude.{◌≡◌, ◌≤◌, IfOk};
 ghost use Rattle.iso_lexer.specs.declared.limits.TheConstants.{MOST_SESSIONS};
+ghost use Rattle.sql_blocks.specs.Blocks.{blocks_of};
+ghost use Rattle.session_machine.specs.Engine.{opened};
 ghost use Rattle.session_crews.specs.Crews.{IsNew};
 ghost use Rattle.session_threads.specs.Crews.{Waits};
 
@@ -31,7 +33,8 @@ pub fn open_run<'a, 't, V: Versions, O: Orderings, D: Driver<V> + Drop>(
 ) -> Result<Opened<Held<'a, 't, V>, ByDriver<V, D>>, AllocError>
     requires few { sessions ≤ MOST_SESSIONS }
     requires waits { Waits V.content D.order_after D.follows O.orders place run }
-    ensures { IfOk result (λ run. IsNew (O.orders run.place) run.engine.state (D.order_after run.driver.driver) (D.follows run.driver.driver)) }
+    ensures new { IfOk result (λ run. IsNew (O.orders run.place) run.engine.state (D.order_after run.driver.driver) (D.follows run.driver.driver)) }
+    ensures of { IfOk result (λ run. (run.place ≡ place) × (run.engine.state ≡ opened (blocks_of blocks.now) sessions Mode.Directed)) }
 {
     let Run { store, driver } = run;
     let state = EngineState::new(alloc, blocks, sessions, Mode::Directed, store)?;

@@ -190,6 +190,7 @@ impl<'s> Ahead<'s> {
         requires drafts { All (IsDraft (spec_view file.now.spec) (blocks_of file.now.blocks.items)) self.old.drafts.items }
         ensures drafts { OnOk result (All (IsDraft (spec_view file.now.spec) (blocks_of file.now.blocks.items)) self.new.drafts.items) }
         ensures few { OnOk result (length self.new.drafts.items ≤ self.old.left) }
+        ensures ahead { OnOk result (length self.old.drafts.items ≤ 1024 → length self.new.drafts.items ≤ 1024) }
         ensures left { OnOk result (self.new.left ≡ self.old.left) }
         ensures same { OnOk result (to_come self.old.drafts.items self.old.behind.more ≡ to_come self.new.drafts.items self.new.behind.more) }
         ensures over { OnOk result (self.new.drafts.items ≡ [] → self.new.behind.more ≡ []) }
@@ -227,6 +228,7 @@ impl<'s> Ahead<'s> {
         requires drafts { All (IsDraft (spec_view file.now.spec) (blocks_of file.now.blocks.items)) self.old.drafts.items }
         ensures drafts { OnOk result (All (IsDraft (spec_view file.now.spec) (blocks_of file.now.blocks.items)) self.new.drafts.items) }
         ensures few { OnOk result (length self.new.drafts.items ≤ self.new.left) }
+        ensures ahead { OnOk result (length self.old.drafts.items ≤ 1024 → length self.new.drafts.items ≤ 1024) }
         ensures is { IfOk result (λ next. IfSome next (IsDraft (spec_view file.now.spec) (blocks_of file.now.blocks.items))) }
         ensures next { IfOk result (λ next. IfSome next (λ draft.
             to_come self.old.drafts.items self.old.behind.more ≡ entries_of draft ∷ to_come self.new.drafts.items self.new.behind.more)) }

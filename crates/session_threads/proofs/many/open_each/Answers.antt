@@ -1,5 +1,8 @@
 use Rattle.std.proofs.Common.{◌≡◌, ◌∙◌, ◌+◌, ◌++◌, ◌∷◌, ℕ, [], ap, length, rules, arith, subst, sym}
 use Rattle.std.proofs.lemmas.List.{length_push}
+use Rattle.sql_blocks.specs.Blocks.{blocks_of}
+use Rattle.session_machine.specs.declared.event.Mode.TheVariants.{Directed}
+use Rattle.session_machine.specs.Engine.{opened}
 use Rattle.session_crews.specs.declared.shared.Opened.{Opened}
 use Rattle.session_crews.specs.Crews.{EachFrom, IsNew}
 use Rattle.session_crews.proofs.Lists.{count_on, each_first, each_none, each_on, each_rest, each_same}
@@ -21,6 +24,7 @@ loop-run-init g c =
       room = search (rules, arith);
       waits = subst (λ n. EachFrom waits n left) (sym at) (each_same waits 0 left c.args.runs.items same c.requires.waits);
       new = each_none (λ place run. IsNew (g.O.Orderings.orders run.place) run.engine.state (g.D.Driver.order_after run.driver.driver) (g.D.Driver.follows run.driver.driver)) 0 c.in_ok-all.all.items none;
+      of = each_none (λ place run. run.engine.state ≡ opened (blocks_of c.args.blocks.now) c.args.sessions Directed) 0 c.in_ok-all.all.items none;
     }
 
 pub open_run-requires-clause-waits : goal.open_run-requires-clause-waits
@@ -47,5 +51,6 @@ loop-run-preserved g c =
       count = count_on so_far now left rest one run (length c.args.runs.items) before.count first pushed;
       room = search (rules, arith);
       waits = each_rest (Waits g.V.Versions.content g.D.Driver.order_after g.D.Driver.follows g.O.Orderings.orders) (length so_far) (length now) left rest run before.waits first longer;
-      new = each_on (λ place run. IsNew (g.O.Orderings.orders run.place) run.engine.state (g.D.Driver.order_after run.driver.driver) (g.D.Driver.follows run.driver.driver)) c.len-place.result so_far now one before.new at c.in_ok-opened.ensures pushed;
+      new = each_on (λ place run. IsNew (g.O.Orderings.orders run.place) run.engine.state (g.D.Driver.order_after run.driver.driver) (g.D.Driver.follows run.driver.driver)) c.len-place.result so_far now one before.new at c.in_ok-opened.ensures.new pushed;
+      of = each_on (λ place run. run.engine.state ≡ opened (blocks_of c.args.blocks.now) c.args.sessions Directed) c.len-place.result so_far now one before.of at c.in_ok-opened.ensures.of.1 pushed;
     }

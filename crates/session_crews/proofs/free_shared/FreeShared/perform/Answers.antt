@@ -14,7 +14,7 @@ invariant_of-self g c =
     let held = g.S.SeatAt.seat c.args.seat.now in
     let kept = g.S.SeatAt.seat c.act.new.self in
     let a = c.in-Ok.ensures.ok in
-    let is = subst (λ (s : FreeSharedOf). IsNextOf s.progress c.session-session.result c.args.event) (sym c.self.view_is) (c.is_due.ensures (search rules)) in
+    let is = subst (λ (s : FreeSharedOf). IsNextOf s.progress c.session-session.result c.args.event) (sym c.self.view_is) (c.is_due.ensures.is (search rules)) in
     let over : c.is_over.result ≡ a.reply.ended =
     c.is_over.ensures ∙ (ap is_over c.block_state.ensures ∙ (ap (λ last. is_over (block_state last)) c.last.ensures ∙ over_acted c.args.event engine after held kept a)) in
     let at : c.index_mut.result.now ≡ is.at = grind (arith, common_steps, gets, c.index_mut.ensures.value, is.there, is.is) in

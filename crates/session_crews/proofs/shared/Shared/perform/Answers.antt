@@ -1,7 +1,7 @@
 use Rattle.std.proofs.Common.{◌≡◌, None, rules, sym, subst}
 use Rattle.std.specs.Prelude.{IfSome}
 use Rattle.session_seats.specs.Refusals.{IsNextIn, MayMeet}
-use Rattle.session_crews.proofs.Next.{is_order, undone}
+use Rattle.session_crews.proofs.Next.{is_order, told_first, undone}
 use Rattle.session_crews.proofs.Ordering.{goes_on, stays, led_on, led_stays}
 use Rattle.session_crews.proofs.shared.Shared.perform.Goals as goal
 
@@ -36,3 +36,9 @@ note-requires-in-Err g c =
     let after = g.E.Engine.engine c.act-acted.new.engine in
     let next : IsNextIn orders before c.args.event = search rules in
     undone orders c.args.event before after c.in-Err.fault c.self.invariant.0.ordered next c.in-Err.ensures.err
+
+pub returns-in-Err-clause-told : goal.returns-in-Err-clause-told
+returns-in-Err-clause-told g c = λ hand.
+    let none : c.self.inside.fault ≡ None = search rules in
+    told_first c.args.event (g.E.Engine.engine c.self.inside.engine) (g.E.Engine.engine c.act-acted.new.engine) c.args.self.now.engine c.note-in-Err.new.self.engine c.self.inside.fault c.note-in-Err.new.self.fault c.in-Err.fault
+    (search rules) (search rules) none (search rules) c.in-Err.ensures.err

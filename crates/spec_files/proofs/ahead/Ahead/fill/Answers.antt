@@ -14,3 +14,9 @@ returns-clause-few g c =
     let same : map entries_read c.into.result.items ≡ c.in_ok-taken.taken.items = search rules in
     let within : c.min-most.result ≤ c.args.self.now.left = search (rules, arith) in
     few_drafts c.into.result.items c.in_ok-taken.taken.items c.min-most.result c.args.self.now.left same c.in_ok-taken.ensures.few within
+
+pub returns-clause-ahead : goal.returns-clause-ahead
+returns-clause-ahead g c few =
+    let same : map entries_read c.into.result.items ≡ c.in_ok-taken.taken.items = search rules in
+    let within : c.min-most.result ≤ 1024 = search (rules, arith) in
+    few_drafts c.into.result.items c.in_ok-taken.taken.items c.min-most.result 1024 same c.in_ok-taken.ensures.few within
