@@ -1,5 +1,5 @@
 //! Who stands in the way of the sessions that wait.
-ghost use Rattle.std.specs.Prelude.{◌≡◌, ◌||◌, ◌&&◌, ◌+◌, ◌<◌, ◌≤◌, [], not, IfOk, OnOk, length, replicate, slice_get, slice_set};
+ghost use Rattle.std.specs.Prelude.{◌≡◌, ◌||◌, ◌&&◌, ◌+◌, ◌<◌, ◌≤◌, [], true, false, not, IfOk, OnErr, OnOk, length, replicate, slice_get, slice_set};
 ghost use Rattle.iso_lexer.specs.declared.limits.TheConstants.{MOST_SESSIONS};
 ghost use Rattle.std.specs.List.{position_from};
 ghost use Rattle.row_versions.specs.declared.names.TxId.{TxId as TxFacts};
@@ -49,7 +49,9 @@ impl Blockers {
 
     /// The transaction stands in the way too.
     pub fn add(&mut self, tx: TxId) -> Result<(), AllocError>
-        ensures { OnOk result ((u : TxFacts) → has self.new u ≡ (has self.old u || same_tx tx u)) }
+        ensures added { OnOk result ((u : TxFacts) → has self.new u ≡ (has self.old u || same_tx tx u)) }
+        ensures once { has self.old tx ≡ true → OnOk result (self.new ≡ self.old) }
+        ensures memory { OnErr result (has self.old tx ≡ false) }
     {
         match place_of(&self.by, tx) {
             Some(_) => Ok(()),
