@@ -133,36 +133,58 @@ fn a_driver_is_asked_once_for_each_order(rt: HostRuntime) -> Result<(), Fail> {
     Ok(())
 }
 
-/// Admits everything, says that it is asked not even once, and counts the questions.
+/// May be asked so often for one event, refuses the first so many questions, and counts them.
 #[derive(Drop)]
-struct NoTries {
+struct Slow {
+    tries: u64,
+    refuses: u64,
     asked: AtomicU64,
 }
 
-impl Gate for NoTries {
+impl Gate for Slow {
     fn tries(&self) -> u64 {
-        0
+        self.tries
     }
 
     fn admits(&self, _event: Event) -> bool {
-        self.asked.fetch_add(1, Ordering::SeqCst);
-        true
+        self.asked.fetch_add(1, Ordering::SeqCst) >= self.refuses
     }
 
     fn answered(&self, _event: Event, _reply: &Reply<'_>) {}
 }
 
 #[test]
-fn a_gate_of_no_tries_is_asked_once(rt: HostRuntime) -> Result<(), Fail> {
+fn a_gate_is_asked_as_often_as_it_says(rt: HostRuntime) -> Result<(), Fail> {
     let alloc = rt.alloc();
     let blocks = blocks(alloc, 4, &TEXTS)?;
-    let gate = NoTries {
-        asked: AtomicU64::new(0),
-    };
-    let fault = directed(&rt, alloc, &blocks, QUERY, Order::Stop, &gate)?;
-    holds(&rt, fault.is_none(), "the run ends well");
-    let asked = gate.asked.load(Ordering::SeqCst);
-    holds(&rt, asked == 2, "for the launch, and for the step");
+    // (how often it is asked for one event, how many questions it refuses, and how many it is asked for a launch and a step)
+    for (tries, refuses, asks) in [
+        (0, 0, 2),
+        (0, 9, 1),
+        (1, 0, 2),
+        (1, 9, 1),
+        (3, 2, 4),
+        (3, 9, 3),
+    ] {
+        let gate = Slow {
+            tries,
+            refuses,
+            asked: AtomicU64::new(0),
+        };
+        let fault = directed(&rt, alloc, &blocks, QUERY, Order::Stop, &gate)?;
+        let expected = (refuses == 9).then_some(ThreadFault::Gate);
+        holds(
+            &rt,
+            fault == expected,
+            "a gate that always refuses ends the run",
+        );
+        let asked = gate.asked.load(Ordering::SeqCst);
+        holds(
+            &rt,
+            asked == asks,
+            "each event is asked for until it is admitted, or refused so often",
+        );
+    }
     Ok(())
 }
 
