@@ -1,5 +1,6 @@
 #!/usr/bin/env python3
-"""Where a crate's code tells want of memory, or of a thread, by itself: no clause tells such a want from one that an allocator or the start of a thread told, so each such line stands in tools/wants.txt.
+"""Where a crate's code tells want of memory, or of a thread, by itself, or asks for room by a number: no clause tells a want that is made up from one that an allocator or the start of a thread told, so each such line stands in
+tools/wants.txt.
 
     tools/wants.py           says where the text differs from the list; the status is 1 where it does
     tools/wants.py --write   writes the list
@@ -10,8 +11,8 @@ import sys
 
 TOP = os.path.dirname(os.path.dirname(os.path.realpath(__file__)))
 LIST = f"{TOP}/tools/wants.txt"
-HEAD = """# Lines of code that tell want of memory or of a thread by themselves, or hand another call's want on: what an allocator refused is handed on by `?`. And those that name the greatest number of a
-# type, for which no allocator has room. Written by tools/wants.py --write; ./check compares it with the text.
+HEAD = """# Lines of code that tell want of memory or of a thread by themselves, or hand another call's want on: what an allocator refused is handed on by `?`. Those that name the greatest number of a
+# type, for which no allocator has room; and those that ask for room by a number, which may be more than is needed. Written by tools/wants.py --write; ./check compares it with the text.
 """
 # Crates of tests, and programs around the library, tell what they like.
 LEFT_OUT = re.compile(r"_tests$|^(test_devices|examples|timings|timeline|isolationtester)$")
@@ -19,17 +20,19 @@ LEFT_OUT = re.compile(r"_tests$|^(test_devices|examples|timings|timeline|isolati
 MADE = re.compile(r"(?:^|[(|=>{;,&]\s*|\breturn )(?:\w+::)*(?:AllocError|(?<=::)(?:Memory|ThreadRefused))\b(?!>|\)*\s*(?:=>|\||if ))")
 # So much room no allocator has: who asks for it makes a want up.
 TOO_MUCH = re.compile(r"\b(?:usize|isize|u64|i64)::MAX\b")
+# So much room is asked for as a number says, needed or not.
+ROOM = re.compile(r"\b(?:with_capacity|try_reserve|reserve|try_reserve_exact|reserve_exact|resize)\(|\bvec!\[in ")
 SKIPPED = re.compile(r"^(use |pub use |ghost |ensures |requires |//|#|impl |where )")
 # What the allocator refused is told as it was.
 FROM = re.compile(r"fn from\(_\w*: Alloc")
 
 
 def made_in(text):
-    """Returns the lines of a file's text that tell want of memory or of a thread by themselves."""
+    """Returns the lines of a file's text that tell want of memory or of a thread by themselves, or ask for room by a number."""
     lines, behind = [], 0
     for line in (it.strip() for it in text.split("\n")):
         behind = 3 if FROM.search(line) else behind - 1
-        if behind <= 0 and not SKIPPED.match(line) and ("->" not in line.split("=>")[0] and MADE.search(line) or TOO_MUCH.search(line)):
+        if behind <= 0 and not SKIPPED.match(line) and ("->" not in line.split("=>")[0] and MADE.search(line) or TOO_MUCH.search(line) or ROOM.search(line)):
             lines.append(line)
     return lines
 
