@@ -181,11 +181,12 @@ impl<
     /// flight are: what wakes a thread then serves many.
     pub fn serve<G: Gate, R: Wait>(&mut self, rt: &R, room: &Room<'_, E, S, O, D, G>) {
         make_room(self.alloc, room.slots.len());
-        let mut hands = [0; MOST_SESSIONS + 1];
-        let mut in_flight = self.fill_each(rt, room, u64::MAX, &mut hands);
+        let mut place_for_hands = [0; MOST_SESSIONS + 1];
+        let hands = room.hands_in(&mut place_for_hands);
+        let mut in_flight = self.fill_each(rt, room, u64::MAX, hands);
         let (mut looks, mut done) = (0, 0);
         for _ in rt.forever() {
-            let again = room.pass(rt, 0, looks, &mut hands);
+            let again = room.pass(rt, 0, looks, hands);
             looks = room.board.next(rt, 0, again);
             if looks == 0 {
                 return;
@@ -194,7 +195,7 @@ impl<
             looks &= !done;
             if done.count_ones() >= in_flight.count_ones().div_ceil(2) {
                 in_flight &= !done;
-                in_flight |= self.fill_each(rt, room, done, &mut hands);
+                in_flight |= self.fill_each(rt, room, done, hands);
                 done = 0;
             }
         }

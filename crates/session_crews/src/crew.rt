@@ -42,6 +42,12 @@ impl<'g, E: Engine, S: SeatAt<E>, O: Orderings, D: Drives<E> + Drop, G: Gate> Ro
     D,
     G,
 > {
+    /// A hand for each desk.
+    pub fn hands_in<'h>(&self, room: &'h mut [u64]) -> &'h mut [u64] {
+        let count = self.board.desks().min(room.len());
+        &mut room[..count]
+    }
+
     /// Whether the gate admits what the session is to do in a run; it is asked for nothing where there is nothing to do.
     fn is_admitted<R: Wait>(&self, rt: &R, slot: &Slot<E, S, O, D>, session: u32) -> bool {
         match slot.due(rt, session) {
@@ -107,13 +113,14 @@ impl<'g, E: Engine, S: SeatAt<E>, O: Orderings, D: Drives<E> + Drop, G: Gate> Ro
     /// Does the session's events in all runs until they are over.
     pub fn work<R: Wait>(&self, rt: &R, session: u32) {
         make_room(self.alloc, self.slots.len());
-        let mut hands = [0; MOST_SESSIONS + 1];
+        let mut room = [0; MOST_SESSIONS + 1];
+        let hands = self.hands_in(&mut room);
         let mut looks = self.board.take(rt, session);
         for _ in rt.forever() {
             if looks == 0 {
                 return;
             }
-            let again = self.pass(rt, session, looks, &mut hands);
+            let again = self.pass(rt, session, looks, hands);
             looks = self.board.next(rt, session, again);
         }
     }

@@ -98,10 +98,12 @@ impl<E: Engine, O: Orderings, D: Drives<E>> Shared<E, O, D> {
         if self.over() {
             return None;
         }
-        match (self.order, self.engine.turn()) {
-            (Some(event), _) => Some(event),
-            (None, Turn::Session(session)) => Some(Event::Step { session }),
-            _ => None,
+        match self.order {
+            Some(event) => Some(event),
+            None => match self.engine.turn() {
+                Turn::Session(session) => Some(Event::Step { session }),
+                _ => None,
+            },
         }
     }
 

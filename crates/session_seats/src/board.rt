@@ -143,6 +143,13 @@ impl Board {
         })
     }
 
+    /// How many desks there are.
+    pub fn desks(&self) -> usize
+        ensures { result ≡ vec_len self.now.desks }
+    {
+        self.desks.len()
+    }
+
     /// Puts runs on a session's desk, and wakes its thread where the desk was empty.
     pub fn put(&self, session: u32, runs: u64) {
         if let Some(desk) = self.desks.get(session as usize) {
