@@ -42,7 +42,7 @@ impl<'g, E: Engine, S: SeatAt<E>, O: Orderings, D: Drives<E> + Drop, G: Gate> Ro
     D,
     G,
 > {
-    /// A hand for each desk.
+    /// The first words of this room, one for each desk: in each the runs are marked that are to lie there.
     pub fn hands_in<'h>(&self, room: &'h mut [u64]) -> &'h mut [u64] {
         let count = self.board.desks().min(room.len());
         &mut room[..count]
