@@ -4,6 +4,7 @@
 use crate::crew::{Room, hand_to};
 use crate::driven::Drives;
 use crate::ending::ended_of;
+use crate::flight::Flight;
 use crate::keeper::{Keeper, Keeping};
 use crate::queue::{Kept, Queue};
 use crate::served::Served;
@@ -50,11 +51,11 @@ impl<
 > Model for Counter<'k, E, S, O, D, T, B, K> {
     ghost use Rattle.iso_lexer.specs.declared.limits.TheConstants.{MOST_SESSIONS};
     ghost use Rattle.std.specs.Prelude.{◌≤◌};
-    ghost use Rattle.session_crews.specs.Inner.Queue.{Serves};
+    ghost use Rattle.session_crews.specs.Inner.Queue.{CounterOf, Serves};
 
-    ghost Value = { Unit {0} };
+    ghost Value = { CounterOf };
 
-    ghost view = { λ c. tt };
+    ghost view = { λ c. record { sessions = c.sessions; waiting = c.queue } };
 
     ghost invariant = { λ c. (c.sessions ≤ MOST_SESSIONS) × Serves E.engine D.order_after D.follows O.orders (K.is_ready c.keeper.now) (K.ends c.keeper.now) (K.keeps c.keeper.now) B.waits B.kept };
 }
@@ -70,7 +71,7 @@ impl<
     K: Keeper<E, S, T>,
 > Counter<'k, E, S, O, D, T, B, K> {
     ghost use Rattle.iso_lexer.specs.declared.limits.TheConstants.{MOST_SESSIONS};
-    ghost use Rattle.std.specs.Prelude.{◌≡◌, ◌≤◌, true, All, IfSome};
+    ghost use Rattle.std.specs.Prelude.{◌≡◌, ◌≤◌, ◌-◌, true, All, IfSome};
     ghost use Rattle.session_crews.specs.Inner.Queue.{Serves};
     ghost use Rattle.session_crews.specs.Inner.Shared.{is_outside};
 
@@ -98,19 +99,23 @@ impl<
 
     /// For how many sessions beside the control session it serves runs.
     pub fn sessions(&self) -> u32
-        ensures { result ≤ MOST_SESSIONS }
+        ensures is { result ≡ self.now.sessions }
+        ensures few { result ≤ MOST_SESSIONS }
     {
         self.sessions
     }
 
     /// How many runs wait.
-    pub fn waiting(&self) -> usize {
+    pub fn waiting(&self) -> usize
+        ensures { result ≡ self.now.waiting }
+    {
         self.queue.waiting()
     }
 
     /// Loses the first run that waits, for this fault.
     pub fn lose_next(&mut self, fault: ThreadFault)
         requires { is_outside fault ≡ true }
+        ensures { self.new ≡ record { sessions = self.old.sessions; waiting = self.old.waiting - 1 } }
     {
         if let Some((place, _)) = self.queue.next() {
             self.queue.keep(place, self.keeper.lose(place, fault));
@@ -183,20 +188,18 @@ impl<
         make_room(self.alloc, room.slots.len());
         let mut place_for_hands = [0; MOST_SESSIONS + 1];
         let hands = room.hands_in(&mut place_for_hands);
-        let mut in_flight = self.fill_each(rt, room, u64::MAX, hands);
-        let (mut looks, mut done) = (0, 0);
+        let mut flight = Flight::new(self.fill_each(rt, room, u64::MAX, hands));
+        let mut looks = 0;
         for _ in rt.forever() {
             let again = room.pass(rt, 0, looks, hands);
             looks = room.board.next(rt, 0, again);
             if looks == 0 {
                 return;
             }
-            done |= room.done_among(rt, looks);
-            looks &= !done;
-            if done.count_ones() >= in_flight.count_ones().div_ceil(2) {
-                in_flight &= !done;
-                in_flight |= self.fill_each(rt, room, done, hands);
-                done = 0;
+            flight.note(room.done_among(rt, looks));
+            looks = flight.going_on(looks);
+            if flight.is_half_done() {
+                flight.replace(self.fill_each(rt, room, flight.done(), hands));
             }
         }
     }

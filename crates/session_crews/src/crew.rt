@@ -1,14 +1,15 @@
 //! What a session's thread does in the runs of a crew.
-ghost use Rattle.std.specs.Prelude.{◌≡◌};
-ghost use Rattle.session_crews.specs.Inner.Shared.{handed};
+ghost use Rattle.std.specs.Prelude.{◌≡◌, true, IfErr};
+ghost use Rattle.session_crews.specs.Inner.Shared.{handed, is_outside};
 
 use crate::driven::Drives;
+use crate::served::OUT_OF_TURN;
 use crate::shared::Hand;
 use crate::slot::Slot;
 use iso_lexer::MOST_SESSIONS;
 use session_machine::Engine;
 use session_seats::{
-    Board, Gate, Orderings, SeatAt, ThreadFault, admitted, bit_of, make_room, tell,
+    Admitted, AtOpenGate, Board, Gate, Orderings, SeatAt, ThreadFault, ask, bit_of, make_room, tell,
 };
 use std::alloc::Global;
 use std::sync::Wait;
@@ -48,16 +49,24 @@ impl<'g, E: Engine, S: SeatAt<E>, O: Orderings, D: Drives<E> + Drop, G: Gate> Ro
         &mut room[..count]
     }
 
-    /// Whether the gate admits what the session is to do in a run; it is asked for nothing where there is nothing to do.
-    fn is_admitted<R: Wait>(&self, rt: &R, slot: &Slot<E, S, O, D>, session: u32) -> bool {
+    /// The session's next event in a run, where the gate admits it. A run in which it is refused ends, and so does one that is not the
+    /// session's to go on with.
+    fn ask_for_next<R: Wait>(
+        &self,
+        rt: &R,
+        slot: &Slot<E, S, O, D>,
+        session: u32,
+    ) -> Result<Admitted, ThreadFault>
+        ensures { IfErr result (λ fault. is_outside fault ≡ true) }
+    {
         match slot.due(rt, session) {
-            Some(event) => admitted(self.gate, event),
-            None => true,
+            Some(event) => ask(self.gate, event).ok_or(ThreadFault::Gate),
+            None => Err(OUT_OF_TURN),
         }
     }
 
-    /// Does one event of the session in a run, where the gate admits it, hands the run on, and tells the gate what came of it. A
-    /// run in which it is refused ends. Says in which runs it is the session's turn again.
+    /// Does one event of the session in a run, where the gate admits it, hands the run on, and tells the gate what came of it.
+    /// Says in which runs it is the session's turn again.
     fn pass_gate<R: Wait>(
         &self,
         rt: &R,
@@ -66,16 +75,19 @@ impl<'g, E: Engine, S: SeatAt<E>, O: Orderings, D: Drives<E> + Drop, G: Gate> Ro
         session: u32,
         hands: &mut [u64],
     ) -> u64 {
-        if !self.is_admitted(rt, slot, session) {
-            hand_to(hands, place, slot.give_up(rt, ThreadFault::Gate));
-            return 0;
-        }
-        let look = slot.go_on(rt, self.alloc, false, session);
+        let admitted = match self.ask_for_next(rt, slot, session) {
+            Ok(admitted) => admitted,
+            Err(fault) => {
+                hand_to(hands, place, slot.give_up(rt, fault));
+                return 0;
+            }
+        };
+        let look = slot.do_one(rt, self.alloc, &admitted, session);
         hand_to(hands, place, look.hand);
         let again = self.board.hand_on(session, hands);
         if let Some(seat) = look.seat {
-            tell(self.gate, seat.last());
-            hand_to(hands, place, slot.take_back(rt, session, seat));
+            let told = tell::<E, S, G>(self.gate, &seat);
+            hand_to(hands, place, slot.take_back(rt, session, seat, told));
         }
         again
     }
@@ -83,17 +95,15 @@ impl<'g, E: Engine, S: SeatAt<E>, O: Orderings, D: Drives<E> + Drop, G: Gate> Ro
     /// Does what the session is to do in each of these runs: one event, at an open gate all that are its to do. Hands them on, and
     /// says in which of them it is the session's turn again.
     pub fn pass<R: Wait>(&self, rt: &R, session: u32, looks: u64, hands: &mut [u64]) -> u64 {
-        let is_open = self.gate.is_open();
+        let open = AtOpenGate::of(self.gate);
         let mut again = 0;
         for (place, slot) in self.slots.iter().enumerate() {
             if looks & bit_of(place) == 0 {
                 continue;
             }
-            if is_open {
-                let look = slot.go_on(rt, self.alloc, true, session);
-                hand_to(hands, place, look.hand);
-            } else {
-                again |= self.pass_gate(rt, slot, place, session, hands);
+            match &open {
+                Some(open) => hand_to(hands, place, slot.go_on(rt, open, session)),
+                None => again |= self.pass_gate(rt, slot, place, session, hands),
             }
         }
         again | self.board.hand_on(session, hands)

@@ -1,5 +1,5 @@
 //! Runs that a crew serves side by side, in each of which a driver says what is given to whom.
-ghost use Rattle.std.specs.Prelude.{◌≡◌, ◌≤◌, ℕ, All, IfOk, IfSome, length, vec_len};
+ghost use Rattle.std.specs.Prelude.{◌≡◌, ◌≤◌, ◌+◌, ℕ, true, false, All, IfOk, IfSome, length, vec_len};
 ghost use Rattle.iso_lexer.specs.declared.limits.TheConstants.{MOST_SESSIONS};
 ghost use Rattle.session_crews.specs.Crews.{EachFrom, MayServe};
 ghost use Rattle.session_crews.specs.Inner.Queue.{Serves};
@@ -24,7 +24,7 @@ use std::thread::{JoinHandle, Scope, Threads};
 const IN_FLIGHT: usize = 24;
 
 /// Starts a thread for a session. Each start that is refused loses the first run that waits, and then it is tried again for the
-/// others.
+/// others. Says whether the thread was started: else no run waits any more.
 fn start_one<
     's,
     'e: 's,
@@ -41,21 +41,25 @@ fn start_one<
     crew: &mut Vec<JoinHandle<()>>,
     counter: &mut Counter<'_, E, S, O, D, T, B, K>,
     work: F,
-)
+) -> bool
     requires pre { (f : _) → F.pre f }
+    ensures started { result ≡ true → length crew.new.items ≡ length crew.old.items + 1 }
+    ensures none_left { result ≡ false → counter.new.waiting ≡ 0 }
+    ensures same { counter.new.sessions ≡ counter.old.sessions }
 {
     let mut work = work;
     for _ in 0..counter.waiting() {
         let Err(refused) = start_thread(scope, crew, work) else {
-            return;
+            return true;
         };
         let NotStarted { fault, work: again } = refused;
         counter.lose_next(fault);
         work = again;
     }
+    false
 }
 
-/// Starts a thread for each session but the control session.
+/// Starts a thread for each session but the control session. Says whether all were started: else no run waits any more.
 fn start<
     's,
     'e: 's,
@@ -74,11 +78,17 @@ fn start<
     room: &'s Room<'_, E, S, O, D, G>,
     crew: &mut Vec<JoinHandle<()>>,
     counter: &mut Counter<'_, E, S, O, D, T, B, K>,
-) {
+) -> bool
+    ensures started { result ≡ true → length crew.new.items ≡ length crew.old.items + counter.old.sessions }
+    ensures none_left { result ≡ false → counter.new.waiting ≡ 0 }
+{
     for session in 1..counter.sessions() + 1 {
         let work = move || room.work(rt, session);
-        start_one(scope, crew, counter, work);
+        if !start_one(scope, crew, counter, work) {
+            return false;
+        }
     }
+    true
 }
 
 /// Starts the threads, does what is the control session's in the calling one until all runs are over, and joins the others.
@@ -101,7 +111,7 @@ fn serve_in<
     counter: &mut Counter<'_, E, S, O, D, T, B, K>,
 ) {
     let mut crew = Vec::new(room.alloc);
-    start(scope, rt, room, &mut crew, counter);
+    let _ = start(scope, rt, room, &mut crew, counter);
     counter.serve(rt, room);
     for thread in crew {
         thread.join(rt);

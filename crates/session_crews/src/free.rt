@@ -1,5 +1,5 @@
 //! A run in which each session's thread runs the session's script, with no order between sessions.
-ghost use Rattle.std.specs.Prelude.{◌≡◌, ◌≤◌, ◌⊎◌, [], true, false, None, Some, is_some, length, vec_len, IfErr, IfOk, IfSome};
+ghost use Rattle.std.specs.Prelude.{◌≡◌, ◌≤◌, ◌⊎◌, ◌+◌, [], true, false, None, Some, is_some, length, vec_len, IfErr, IfOk, IfSome};
 ghost use Rattle.iso_lexer.specs.declared.limits.TheConstants.{MOST_SESSIONS};
 ghost use Rattle.session_seats.specs.Acts.{IsRunOf};
 ghost use Rattle.session_seats.specs.Free.{scripts_in};
@@ -7,7 +7,7 @@ ghost use Rattle.session_seats.specs.FreeRuns.{FitsPlan, IsCutShort};
 ghost use Rattle.session_crews.specs.Inner.FreeRuns.{AllDone, AreAtStart, DidLast, HaveDone, IsSetUp, Left};
 
 use crate::free_run::{FreeRun, run_block};
-use crate::free_shared::{FreeShared, run_script, stop};
+use crate::free_shared::{FreeShared, Stopped, run_script, stop};
 use crate::joined::Joined;
 use crate::progress::Progress;
 use session_machine::{Engine, EngineFault, Event};
@@ -125,7 +125,7 @@ fn at_start(alloc: Global, scripts: &[Vec<u32>]) -> Result<Vec<Progress<'_>>, Th
     Ok(progress)
 }
 
-/// Starts a thread for each session but the control session.
+/// Starts a thread for each of these seats. Where one is refused the run is stopped.
 fn start_scripts<
     's,
     'e: 's,
@@ -143,24 +143,20 @@ fn start_scripts<
     gate: &'s G,
     seats: &'s mut [S],
     crew: &mut Vec<JoinHandle<()>>,
-) -> Result<(), ThreadFault>
-    ensures { IfErr result (λ fault. (fault ≡ ThreadFault.Memory) ⊎ (fault ≡ ThreadFault.ThreadRefused)) }
+) -> Result<(), Stopped>
+    ensures { IfOk result (λ _. length crew.new.items ≡ length crew.old.items + length seats.old) }
 {
-    let each = seats.iter_mut();
-    for seat in each {
-        if seat.session() == 0 {
-            continue;
-        }
+    for seat in seats.iter_mut() {
         let runner = Runner { bell, seat };
         let started = start_thread(scope, crew, move || run_script(rt, shared, gate, runner));
         if let Err(refused) = started {
-            return Err(refused.fault);
+            return Err(stop(rt, shared, bell, refused.fault));
         }
     }
     Ok(())
 }
 
-/// Serves the seats in a scope, and gives them back.
+/// Serves all seats but the control session's, which is the first, in a scope, and gives them back.
 fn run_threads<
     E: Engine + Send,
     S: SeatAt<E> + Send,
@@ -175,16 +171,15 @@ fn run_threads<
     gate: &G,
     mut seats: Vec<S>,
 ) -> Vec<S> {
-    let lent = &mut *seats;
-    thread::scope(thread::scope_env(), rt, move |scope| {
-        let mut crew = Vec::new(alloc);
-        if let Err(fault) = start_scripts(scope, rt, shared, bell, gate, lent, &mut crew) {
-            stop(rt, shared, bell, fault);
-        }
-        for thread in crew {
-            thread.join(rt);
-        }
-    });
+    if let Some((_, lent)) = seats.split_first_mut() {
+        thread::scope(thread::scope_env(), rt, move |scope| {
+            let mut crew = Vec::new(alloc);
+            let _ = start_scripts(scope, rt, shared, bell, gate, lent, &mut crew);
+            for thread in crew {
+                thread.join(rt);
+            }
+        });
+    }
     seats
 }
 

@@ -1,17 +1,19 @@
 //! What stands behind the lock of a free run, and how an event is done there.
-ghost use Rattle.std.specs.Prelude.{◌≡◌, true, None, Some, is_some, length, IfNone, IfSome};
+ghost use Rattle.std.specs.Prelude.{◌≡◌, ◌↔◌, IsTrue, true, None, Some, is_some, length, IfNone, IfSome};
 ghost use Rattle.std.specs.Option.{option_or};
 ghost use Rattle.session_machine.specs.Machine.{session_of};
 ghost use Rattle.session_machine.specs.declared.event.Event.{Event as EventOf};
 ghost use Rattle.session_seats.specs.Acts.{IsRunOf, NotActed};
 ghost use Rattle.session_seats.specs.Free.{last_item, may_release};
+ghost use Rattle.session_crews.specs.Inner.Shared.{HasLast};
 ghost use Rattle.session_crews.specs.Inner.FreeRuns.{AllDone, AreAtStart, HaveDone, IsNextOf, NothingIsNextOf};
 
 use crate::free_run::FreeRun;
 use crate::progress::Progress;
 use session_machine::{Engine, EngineFault, Event};
 use session_seats::{
-    Gate, Runner, Scripting, SeatAt, ThreadFault, Tried, admitted, block_state, may_release, tell,
+    Admitted, Gate, Runner, Scripting, SeatAt, ThreadFault, Told, Tried, ask, block_state,
+    may_release, tell,
 };
 use std::marker::{Model, PhantomData};
 use std::sync::{Condvar, Mutex, Wait};
@@ -71,6 +73,13 @@ impl<'p, E: Engine, P: Scripting> FreeShared<'p, E, P> {
         self.engine.events()
     }
 
+    /// Whether the run goes on, and there were just so many events.
+    fn is_at(&self, events: usize) -> bool
+        ensures { IsTrue result ↔ ((self.now.fault ≡ None) × (events ≡ length self.now.engine.history)) }
+    {
+        !self.over() && self.events() == events
+    }
+
     /// Keeps a fault, where none was met before.
     pub fn note(&mut self, fault: ThreadFault)
         ensures { self.new ≡ record { engine = self.old.engine; progress = self.old.progress; fault = option_or self.old.fault (Some fault) } }
@@ -107,6 +116,7 @@ impl<'p, E: Engine, P: Scripting> FreeShared<'p, E, P> {
     /// Does the event, unless the run is over, the event isn't the session's next one, or something stands in its way.
     fn perform<S: SeatAt<E>>(&mut self, seat: &mut S, event: Event) -> Tried
         requires { session_of event ≡ (S.seat seat.old).session }
+        ensures done { result ≡ Tried.Done → HasLast event (S.seat seat.new) }
         ensures session { (S.seat seat.new).session ≡ (S.seat seat.old).session }
         ensures over { result ≡ Tried.Over → is_some self.new.fault ≡ true }
         ensures first { IfSome self.old.fault (λ fault. self.new.fault ≡ Some fault) }
@@ -166,15 +176,22 @@ fn all_done(progress: &[Progress<'_>]) -> bool
     true
 }
 
+/// Says that a free run was stopped. Nothing but `stop` makes one.
+#[derive(Drop)]
+pub struct Stopped {
+    made: (),
+}
+
 /// Keeps a fault, and wakes everyone.
 pub fn stop<E: Engine, P: Scripting, R: Wait>(
     rt: &R,
     shared: &Mutex<FreeShared<'_, E, P>>,
     bell: &Condvar,
     fault: ThreadFault,
-) {
+) -> Stopped {
     shared.lock(rt).note(fault);
     bell.notify_all();
+    Stopped { made: () }
 }
 
 /// Whether those who sleep are woken behind an event that was tried: where it may have released something, or the run is over.
@@ -189,19 +206,21 @@ fn wakes<E: Engine, S: SeatAt<E>>(tried: Tried, seat: &S) -> bool
     }
 }
 
-/// Tries an event under the lock. Wakes those who sleep where something may have been released, or the run is over.
+/// Tries an event that a gate has admitted, under the lock. Wakes those who sleep where something may have been released, or the run
+/// is over.
 fn try_event<E: Engine, S: SeatAt<E>, P: Scripting, R: Wait>(
     rt: &R,
     shared: &Mutex<FreeShared<'_, E, P>>,
     bell: &Condvar,
     seat: &mut S,
-    event: Event,
+    admitted: &Admitted,
 ) -> Tried
-    requires { session_of event ≡ (S.seat seat.old).session }
-    ensures { (S.seat seat.new).session ≡ (S.seat seat.old).session }
+    requires { session_of admitted.now ≡ (S.seat seat.old).session }
+    ensures session { (S.seat seat.new).session ≡ (S.seat seat.old).session }
+    ensures done { result ≡ Tried.Done → HasLast admitted.now (S.seat seat.new) }
 {
     let mut guard = shared.lock(rt);
-    let tried = guard.perform(seat, event);
+    let tried = guard.perform(seat, admitted.event());
     drop(guard);
     if wakes::<E, S>(tried, seat) {
         bell.notify_all();
@@ -216,38 +235,36 @@ fn sleep<E: Engine, P: Scripting, R: Wait>(
     bell: &Condvar,
     events: usize,
 ) {
-    let guard = bell.wait_while(rt, shared.lock(rt), |s| !s.over() && s.events() == events);
+    let guard = bell.wait_while(rt, shared.lock(rt), |s| s.is_at(events));
     drop(guard);
 }
 
 /// Does one event as soon as nothing stands in its way: asks the gate, does the event under the lock, and tells the gate.
-/// Says whether it was done; it wasn't where the run is over.
-pub fn free_event<E: Engine, S: SeatAt<E>, P: Scripting, G: Gate, R: Wait>(
+/// Says that it was done and told; it wasn't where the run is over.
+fn free_event<E: Engine, S: SeatAt<E>, P: Scripting, G: Gate, R: Wait>(
     rt: &R,
     shared: &Mutex<FreeShared<'_, E, P>>,
     bell: &Condvar,
     gate: &G,
     seat: &mut S,
     event: Event,
-) -> bool
+) -> Option<Told>
     requires { session_of event ≡ (S.seat seat.old).session }
-    ensures { (S.seat seat.new).session ≡ (S.seat seat.old).session }
+    ensures session { (S.seat seat.new).session ≡ (S.seat seat.old).session }
+    ensures done { IfSome result (λ _. HasLast event (S.seat seat.new)) }
 {
-    if !admitted(gate, event) {
-        stop(rt, shared, bell, ThreadFault::Gate);
-        return false;
-    }
+    let Some(admitted) = ask(gate, event) else {
+        let _ = stop(rt, shared, bell, ThreadFault::Gate);
+        return None;
+    };
     for _ in rt.forever() {
-        match try_event(rt, shared, bell, seat, event) {
-            Tried::Done => {
-                tell(gate, seat.last());
-                return true;
-            }
+        match try_event(rt, shared, bell, seat, &admitted) {
+            Tried::Done => return Some(tell::<E, S, G>(gate, seat)),
             Tried::Blocked { events } => sleep(rt, shared, bell, events),
-            Tried::Over => return false,
+            Tried::Over => return None,
         }
     }
-    false
+    None
 }
 
 /// Does what is the session's, one event after the other, until it has done its script or the run is over.
@@ -261,7 +278,7 @@ pub fn run_script<E: Engine, S: SeatAt<E>, P: Scripting, G: Gate, R: Wait>(
     for _ in rt.forever() {
         let due = shared.lock(rt).due(seat.session());
         match due {
-            Some(event) if free_event(rt, shared, bell, gate, seat, event) => {}
+            Some(event) if free_event(rt, shared, bell, gate, seat, event).is_some() => {}
             _ => return,
         }
     }

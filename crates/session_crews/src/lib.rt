@@ -8,6 +8,7 @@ mod crew;
 mod directed;
 mod driven;
 mod ending;
+mod flight;
 mod free;
 mod free_run;
 mod free_shared;

@@ -1,5 +1,5 @@
 //! The runs of a crew that wait for their turn, and what is kept of those that are over.
-ghost use Rattle.std.specs.Prelude.{◌≡◌, All, IfSome, length};
+ghost use Rattle.std.specs.Prelude.{◌≡◌, ◌-◌, All, IfNone, IfOk, IfSome, length};
 ghost use Rattle.session_crews.specs.Crews.{EachFrom};
 
 use crate::keeper::Keeping;
@@ -14,7 +14,8 @@ pub struct Kept<T> {
     pub item: T,
 }
 
-/// The runs that wait, in order, the place of the first of them, and what is kept of others, each at its place.
+/// The runs that wait, in order, the place of the first of them, and what is kept of others, each at its place. Contracts see how
+/// many wait.
 #[derive(Drop)]
 pub struct Queue<W, T, K: Keeping<W, T>> {
     waiting: VecDeque<W>,
@@ -24,12 +25,12 @@ pub struct Queue<W, T, K: Keeping<W, T>> {
 }
 
 impl<W, T, K: Keeping<W, T>> Model for Queue<W, T, K> {
-    ghost use Rattle.std.specs.Prelude.{◌+◌, ◌≤◌, All, IfSome, length};
+    ghost use Rattle.std.specs.Prelude.{ℕ, ◌+◌, ◌≤◌, All, IfSome, length};
     ghost use Rattle.session_crews.specs.Crews.{EachFrom};
 
-    ghost Value = { Unit {0} };
+    ghost Value = { ℕ };
 
-    ghost view = { λ q. tt };
+    ghost view = { λ q. length q.waiting.items };
 
     ghost invariant = { λ q. (q.first + length q.waiting.items ≤ length q.kept.items) × EachFrom K.waits q.first q.waiting.items
         × All (λ slot. IfSome slot (λ kept. K.kept kept.place kept.item)) q.kept.items };
@@ -51,6 +52,7 @@ impl<W: Drop, T: Drop, K: Keeping<W, T>> Queue<W, T, K> {
     /// All of them wait.
     pub fn new(alloc: Global, runs: Vec<W>) -> Result<Self, AllocError>
         requires { EachFrom K.waits 0 runs.items }
+        ensures { IfOk result (λ queue. queue ≡ length runs.items) }
     {
         let mut kept = Vec::with_capacity(alloc, runs.len())?;
         for _ in 0..runs.len() {
@@ -65,13 +67,17 @@ impl<W: Drop, T: Drop, K: Keeping<W, T>> Queue<W, T, K> {
     }
 
     /// How many wait.
-    pub fn waiting(&self) -> usize {
+    pub fn waiting(&self) -> usize
+        ensures { result ≡ self.now }
+    {
         self.waiting.len()
     }
 
     /// Takes the first run that waits, with its place.
     pub fn next(&mut self) -> Option<(usize, W)>
-        ensures { IfSome result (λ first. K.waits first.0 first.1) }
+        ensures first { IfSome result (λ first. K.waits first.0 first.1) }
+        ensures others { self.new ≡ self.old - 1 }
+        ensures none { IfNone result (self.old ≡ 0) }
     {
         let waiting = self.waiting.pop_front()?;
         let place = self.first;
@@ -82,6 +88,7 @@ impl<W: Drop, T: Drop, K: Keeping<W, T>> Queue<W, T, K> {
     /// Keeps what there is of the run at a place.
     pub fn keep(&mut self, place: usize, item: T)
         requires { K.kept place item }
+        ensures { self.new ≡ self.old }
     {
         put::<W, T, K>(&mut self.kept, place, item);
     }

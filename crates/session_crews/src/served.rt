@@ -1,16 +1,27 @@
 //! A run that a crew serves, with its seats.
-ghost use Rattle.std.specs.Prelude.{◌≡◌, ◌≤◌, ◌-◌, ◌==◌, ◌&&◌, true, false};
+ghost use Rattle.std.specs.Prelude.{◌≡◌, ◌≤◌, ◌<◌, ◌-◌, ◌==◌, ◌&&◌, true, false, None, Some, length, slice_get, IfSome, IfNone};
 ghost use Rattle.session_crews.specs.Crews.{IsNew};
-ghost use Rattle.session_crews.specs.Inner.Shared.{at_hand, hand_of, hand_with, is_over};
+ghost use Rattle.session_crews.specs.Inner.Shared.{HasLast, at_hand, hand_of, hand_with, is_outside, is_over, own_of};
 ghost use Rattle.iso_lexer.specs.declared.limits.TheConstants.{MOST_SESSIONS};
 
 use crate::driven::Drives;
 use crate::shared::{Hand, Opened, Shared};
 use session_machine::{Engine, EngineFault};
-use session_seats::{Orderings, SeatAt, ThreadFault};
+use session_seats::{Admitted, AtOpenGate, Orderings, SeatAt, ThreadFault, Told, number_of};
 use std::alloc::{AllocError, Global};
 use std::mem::replace;
 use std::sync::Wait;
+
+/// An event that isn't the session's to do.
+pub const OUT_OF_TURN: ThreadFault = ThreadFault::Engine(EngineFault::NotYourTurn);
+
+/// What came of a session's event in a run: who looks at the run next, and the session's seat, of which a gate is to be told, where
+/// the event was done.
+#[derive(Drop)]
+pub struct Look<S> {
+    pub hand: Hand,
+    pub seat: Option<S>,
+}
 
 /// A run in flight, and a seat for each session, in the order of their numbers. Where a session's thread has the seat for a
 /// while, an empty one stands in for it.
@@ -65,38 +76,93 @@ impl<E: Engine, S: SeatAt<E>, O: Orderings, D: Drives<E> + Drop> Served<E, S, O,
         }
     }
 
-    /// Does what the session is to do: one event, at an open gate all that is its to do, each time asking the driver for what
-    /// comes next. A run that is not the session's to go on with ends. Says whether the event that came last was done.
-    pub fn go_on<R: Wait>(&mut self, rt: &R, is_open: bool, session: u32) -> bool {
-        let mut done = false;
-        if let Some(seat) = self.seats.get_mut(session as usize) {
-            for _ in rt.forever() {
-                let Some(event) = self.shared.due(seat.session()) else {
-                    break;
-                };
-                done = self.shared.perform(seat, event);
+    /// Ends the run in a fault that says nothing of what its engine was to do next, unless it is over.
+    pub fn end(&mut self, fault: ThreadFault)
+        requires { is_outside fault ≡ true }
+        ensures over { is_over self.new.shared ≡ true }
+        ensures fault { is_over self.old.shared ≡ false → self.new.shared.fault ≡ Some fault }
+        ensures late { is_over self.old.shared ≡ true → self.new.shared ≡ self.old.shared }
+        ensures lent { self.new.lent ≡ self.old.lent }
+    {
+        if !self.shared.over() {
+            self.shared.note(fault);
+        }
+    }
+
+    /// Does the event in the session's seat, and asks the driver for what comes next. Says whether it was done: it wasn't where the
+    /// run is over, and in one that is not the session's to go on with, which ends.
+    fn perform(&mut self, admitted: &Admitted, session: u32) -> bool
+        ensures done { result ≡ true → IfSome (slice_get self.new.seats.items session) (λ seat. HasLast admitted.now (S.seat seat)) × (session < length self.new.seats.items) }
+        ensures not_done { result ≡ false → is_over self.new.shared ≡ true }
+        ensures lent { self.new.lent ≡ self.old.lent }
+    {
+        let event = admitted.event();
+        match self.seats.get_mut(session as usize) {
+            Some(seat) if seat.session() == number_of(event) => {
+                let done = self.shared.perform(seat, event);
                 self.shared.ask();
-                if !is_open {
-                    break;
-                }
+                done
+            }
+            _ => {
+                self.end(OUT_OF_TURN);
+                false
             }
         }
-        if !done && !self.shared.over() {
-            self.shared
-                .note(ThreadFault::Engine(EngineFault::NotYourTurn));
+    }
+
+    /// Does all that is the session's to do, at an open gate. A run that is not the session's to go on with ends. Says who looks at
+    /// it next.
+    pub fn go_on<R: Wait>(&mut self, rt: &R, open: &AtOpenGate, session: u32) -> Hand
+        ensures hand { result ≡ hand_with self.new.lent (hand_of (is_over self.new.shared) (at_hand self.new.shared)) }
+        ensures all { own_of session (at_hand self.new.shared) ≡ None }
+    {
+        let mut done = false;
+        for _ in rt.forever() {
+            let Some(event) = self.shared.due(session) else {
+                break;
+            };
+            done = self.perform(&open.admit(event), session);
+            if !done {
+                break;
+            }
         }
-        done
+        if !done {
+            self.end(OUT_OF_TURN);
+        }
+        self.hand()
+    }
+
+    /// Does an event that a gate has admitted to the session. Says who looks at the run next, and lends the session its seat where the
+    /// event was done.
+    pub fn do_one(&mut self, alloc: Global, admitted: &Admitted, session: u32) -> Look<S>
+        ensures hand { result.hand ≡ hand_with self.new.lent (hand_of (is_over self.new.shared) (at_hand self.new.shared)) }
+        ensures last { IfSome result.seat (λ seat. HasLast admitted.now (S.seat seat)) }
+        ensures none { IfNone result.seat (is_over self.new.shared ≡ true) }
+    {
+        let seat = if self.perform(admitted, session) {
+            self.lend(alloc, session)
+        } else {
+            None
+        };
+        Look {
+            hand: self.hand(),
+            seat,
+        }
     }
 
     /// Lends the session's thread its seat.
-    pub fn lend(&mut self, alloc: Global, session: u32) -> Option<S> {
+    fn lend(&mut self, alloc: Global, session: u32) -> Option<S>
+        ensures seat { result ≡ slice_get self.old.seats.items session }
+        ensures shared { self.new.shared ≡ self.old.shared }
+        ensures lent { IfSome result (λ _. ¬ (self.new.lent ≡ 0)) }
+    {
         let seat = self.seats.get_mut(session as usize)?;
         self.lent = self.lent.saturating_add(1);
         Some(replace(seat, S::empty(alloc, session)))
     }
 
-    /// Takes a seat back that was lent. Says who looks at the run then, where it is done with that.
-    pub fn take_back(&mut self, session: u32, seat: S) -> Hand
+    /// Takes a seat back that was lent, and of which the gate was told. Says who looks at the run then, where it is done with that.
+    pub fn take_back(&mut self, session: u32, seat: S, _told: Told) -> Hand
         ensures shared { self.new.shared ≡ self.old.shared }
         ensures lent { self.new.lent ≡ self.old.lent - 1 }
         ensures done { (is_over self.new.shared && (self.new.lent == 0)) ≡ true → result ≡ Hand.Session 0 }

@@ -149,6 +149,7 @@ impl<E: Engine, O: Orderings, D: Drives<E>> Shared<E, O, D> {
         ensures fault { IfSome self.new.fault (λ fault. (self.old.fault ≡ Some fault) ⊎ ((fault ≡ ThreadFault.Memory) ⊎ (fault ≡ ThreadFault.Engine EngineFault.NoSession))) }
         ensures asked { is_over self.old ≡ false → self.old.order ≡ None → is_quiet_in self.old.engine.machine ≡ true → self.new.fault ≡ None
             → Stands (O.orders self.old.place self.old.engine.history) self.new }
+        ensures late { is_over self.old ≡ true → self.new ≡ self.old }
         ensures same { (self.new.engine ≡ self.old.engine) × (self.new.place ≡ self.old.place) }
     {
         if self.over() || self.order.is_some() || !self.engine.quiet() {

@@ -3,20 +3,12 @@ ghost use Rattle.std.specs.Prelude.{◌≡◌, true};
 ghost use Rattle.session_crews.specs.Inner.Shared.{is_outside};
 
 use crate::driven::Drives;
-use crate::served::Served;
+use crate::served::{Look, Served};
 use crate::shared::Hand;
 use session_machine::{Engine, Event};
-use session_seats::{Orderings, SeatAt, ThreadFault};
+use session_seats::{Admitted, AtOpenGate, Orderings, SeatAt, ThreadFault, Told};
 use std::alloc::Global;
 use std::sync::{Mutex, Wait};
-
-/// What came of a session's look at a run: whether its last event there was done, who looks at the run next, and the session's
-/// seat, where a gate is to be told of that event.
-#[derive(Drop)]
-pub struct Look<S> {
-    pub hand: Hand,
-    pub seat: Option<S>,
-}
 
 /// A place of a crew, with the run that is served there, if one is.
 #[derive(Drop)]
@@ -70,28 +62,31 @@ impl<E: Engine, S: SeatAt<E>, O: Orderings, D: Drives<E> + Drop> Slot<E, S, O, D
     {
         match &mut *self.run.lock(rt) {
             Some(run) => {
-                if !run.shared.over() {
-                    run.shared.note(fault);
-                }
+                run.end(fault);
                 run.hand()
             }
             None => Hand::Nobody,
         }
     }
 
-    /// Does there what the session is to do. Lends the session its seat where a gate is to be told of the last event.
-    pub fn go_on<R: Wait>(&self, rt: &R, alloc: Global, is_open: bool, session: u32) -> Look<S> {
+    /// Does there all that is the session's to do, at an open gate. Says who looks at the run then.
+    pub fn go_on<R: Wait>(&self, rt: &R, open: &AtOpenGate, session: u32) -> Hand {
         match &mut *self.run.lock(rt) {
-            Some(run) => {
-                let done = run.go_on(rt, is_open, session);
-                let seat = if done && !is_open {
-                    run.lend(alloc, session)
-                } else {
-                    None
-                };
-                let hand = run.hand();
-                Look { hand, seat }
-            }
+            Some(run) => run.go_on(rt, open, session),
+            None => Hand::Nobody,
+        }
+    }
+
+    /// Does there the event that a gate has admitted to the session. Lends the session its seat where it was done.
+    pub fn do_one<R: Wait>(
+        &self,
+        rt: &R,
+        alloc: Global,
+        admitted: &Admitted,
+        session: u32,
+    ) -> Look<S> {
+        match &mut *self.run.lock(rt) {
+            Some(run) => run.do_one(alloc, admitted, session),
             None => Look {
                 hand: Hand::Nobody,
                 seat: None,
@@ -99,10 +94,10 @@ impl<E: Engine, S: SeatAt<E>, O: Orderings, D: Drives<E> + Drop> Slot<E, S, O, D
         }
     }
 
-    /// Takes a session's seat back. Says who looks at the run then, where it is done with that.
-    pub fn take_back<R: Wait>(&self, rt: &R, session: u32, seat: S) -> Hand {
+    /// Takes a session's seat back, of which the gate was told. Says who looks at the run then, where it is done with that.
+    pub fn take_back<R: Wait>(&self, rt: &R, session: u32, seat: S, told: Told) -> Hand {
         match &mut *self.run.lock(rt) {
-            Some(run) => run.take_back(session, seat),
+            Some(run) => run.take_back(session, seat, told),
             None => Hand::Nobody,
         }
     }

@@ -1,5 +1,5 @@
 //! Which session's thread is to look at which runs of a crew, and who is woken.
-ghost use Rattle.std.specs.Prelude.{◌≡◌, ◌+◌, ◌<◌, ◌≤◌, ◌^◌, bit_and, length, replicate, slice_get, vec_len, IfErr, IfOk, IfSome, IfNone};
+ghost use Rattle.std.specs.Prelude.{◌≡◌, ◌+◌, ◌-◌, ◌<◌, ◌≤◌, ◌==◌, ◌^◌, bit_and, bit_or, length, replicate, slice_get, vec_len, IfErr, IfOk, IfSome, IfNone};
 ghost use Rattle.iso_lexer.specs.declared.limits.TheConstants.{MOST_SESSIONS};
 
 use crate::fault::ThreadFault;
@@ -29,6 +29,18 @@ pub fn bit_of(place: usize) -> u64
     ensures none { 64 ≤ place → result ≡ 0 }
 {
     if place < MOST_RUNS { 1 << place } else { 0 }
+}
+
+/// The bits of so many runs, of 64 at most.
+fn bits_of(runs: usize) -> u64
+    ensures few { runs ≤ 64 → result ≡ 2 ^ runs - 1 }
+    ensures many { 64 ≤ runs → result ≡ 2 ^ 64 - 1 }
+{
+    if runs < MOST_RUNS {
+        (1 << runs) - 1
+    } else {
+        u64::MAX
+    }
 }
 
 /// Whether a thread looks at its desk for a while before it sleeps. Where that is in vain it doesn't the next times: with fewer
@@ -119,6 +131,7 @@ impl Board {
     pub fn new(alloc: Global, sessions: u32, runs: usize) -> Result<Board, ThreadFault>
         requires { sessions ≤ MOST_SESSIONS }
         ensures desks { IfOk result (λ board. vec_len board.desks ≡ sessions + 1) }
+        ensures all { IfOk result (λ board. runs ≤ 64 → board.all ≡ 2 ^ runs - 1) }
         ensures err { IfErr result (λ fault. fault ≡ ThreadFault.Memory) }
     {
         let mut desks = Vec::new(alloc);
@@ -132,14 +145,10 @@ impl Board {
                 return Err(ThreadFault::Memory);
             }
         }
-        let mut all = 0;
-        for place in 0..runs {
-            all |= bit_of(place);
-        }
         Ok(Board {
             desks,
             over: AtomicU64::new(0),
-            all,
+            all: bits_of(runs),
         })
     }
 
@@ -180,18 +189,31 @@ impl Board {
 
     /// The run at this place is over; where all are, everyone is woken.
     pub fn end(&self, place: usize) {
-        let bit = bit_of(place);
-        let over = self.over.fetch_or(bit, Ordering::SeqCst) | bit;
-        if over == self.all {
+        let before = self.over.fetch_or(bit_of(place), Ordering::SeqCst);
+        if self.are_all_with(before, place) {
             for desk in &self.desks {
                 desk.sleeper.unpark();
             }
         }
     }
 
+    /// Whether these are all runs.
+    fn are_all(&self, runs: u64) -> bool
+        ensures { result ≡ (runs == self.now.all) }
+    {
+        runs == self.all
+    }
+
+    /// Whether these are all runs, with the one at this place.
+    fn are_all_with(&self, runs: u64, place: usize) -> bool
+        ensures { place < 64 → result ≡ (bit_or runs (2 ^ place) == self.now.all) }
+    {
+        self.are_all(runs | bit_of(place))
+    }
+
     /// Whether all runs are over.
     fn is_over(&self) -> bool {
-        self.over.load(Ordering::SeqCst) == self.all
+        self.are_all(self.over.load(Ordering::SeqCst))
     }
 
     /// Looks at a desk, as often as its thread has patience. Finds nothing where all runs are over.

@@ -1,5 +1,5 @@
 //! The threads of a run, each of which is joined.
-ghost use Rattle.std.specs.Prelude.{◌≡◌, ◌⊎◌, IfErr};
+ghost use Rattle.std.specs.Prelude.{◌≡◌, ◌⊎◌, ◌+◌, length, IfErr, IfOk};
 
 use crate::fault::ThreadFault;
 use core::thread::{Anything, Stack};
@@ -34,6 +34,8 @@ pub fn start_thread<'s, 'e: 's, F: FnOnce() -> () + Send + Drop + 's>(
     work: F,
 ) -> Result<(), NotStarted<F>>
     requires { F.pre work }
+    ensures started { IfOk result (λ _. length crew.new.items ≡ length crew.old.items + 1) }
+    ensures not_started { IfErr result (λ _. length crew.new.items ≡ length crew.old.items) }
     ensures fault { IfErr result (λ refused. (refused.fault ≡ ThreadFault.Memory) ⊎ (refused.fault ≡ ThreadFault.ThreadRefused)) }
     ensures work { IfErr result (λ refused. refused.work ≡ work) }
 {

@@ -17,7 +17,7 @@ pub use crew::{NotStarted, THREAD_STACK, make_room, start_thread};
 pub use fault::ThreadFault;
 pub use fitting::{first_misfit, number_of};
 pub use free::{BlockState, FreePlan, Runner, Tried, block_state, may_release, script_of};
-pub use gate::{Gate, OpenGate, admitted, tell};
+pub use gate::{Admitted, AtOpenGate, Gate, OpenGate, Told, ask, tell};
 pub use ordering::{Orderings, Scripting};
 pub use seat::{Seat, empty_seats, leave_seats};
 pub use seat_at::SeatAt;

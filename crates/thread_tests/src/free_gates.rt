@@ -25,6 +25,10 @@ impl Crossed {
 }
 
 impl Gate for Crossed {
+    ghost lets = { λ gate event. Unit {0} };
+
+    ghost knows = { λ gate item. Unit {0} };
+
     fn tries(&self) -> u64 {
         self.looks
     }
@@ -72,6 +76,10 @@ impl Handshake {
 }
 
 impl Gate for Handshake {
+    ghost lets = { λ gate event. Unit {0} };
+
+    ghost knows = { λ gate item. Unit {0} };
+
     fn tries(&self) -> u64 {
         1
     }
@@ -105,6 +113,10 @@ impl Reversed {
 }
 
 impl Gate for Reversed {
+    ghost lets = { λ gate event. Unit {0} };
+
+    ghost knows = { λ gate item. Unit {0} };
+
     fn tries(&self) -> u64 {
         self.looks
     }

@@ -38,6 +38,10 @@ impl Backwards {
 }
 
 impl Gate for Backwards {
+    ghost lets = { λ gate event. Unit {0} };
+
+    ghost knows = { λ gate item. Unit {0} };
+
     fn tries(&self) -> u64 {
         self.looks
     }

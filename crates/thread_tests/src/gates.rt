@@ -54,6 +54,10 @@ impl Meeting {
 }
 
 impl Gate for Meeting {
+    ghost lets = { λ gate event. Unit {0} };
+
+    ghost knows = { λ gate item. Unit {0} };
+
     fn tries(&self) -> u64 {
         1
     }
@@ -89,6 +93,10 @@ impl Telling {
 }
 
 impl Gate for Telling {
+    ghost lets = { λ gate event. Unit {0} };
+
+    ghost knows = { λ gate item. Unit {0} };
+
     fn tries(&self) -> u64 {
         1
     }
@@ -116,6 +124,10 @@ pub struct Shut {
 }
 
 impl Gate for Shut {
+    ghost lets = { λ gate event. Unit {0} };
+
+    ghost knows = { λ gate item. Unit {0} };
+
     fn tries(&self) -> u64 {
         3
     }
@@ -136,6 +148,10 @@ pub struct Open {
 }
 
 impl Gate for Open {
+    ghost lets = { λ gate event. Unit {0} };
+
+    ghost knows = { λ gate item. Unit {0} };
+
     fn is_open(&self) -> bool {
         true
     }

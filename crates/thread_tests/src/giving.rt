@@ -119,6 +119,10 @@ impl Counting {
 }
 
 impl Gate for Counting {
+    ghost lets = { λ gate event. Unit {0} };
+
+    ghost knows = { λ gate item. Unit {0} };
+
     fn tries(&self) -> u64 {
         1
     }
@@ -137,12 +141,13 @@ impl Gate for Counting {
 pub const YIELDS: u64 = 1_000;
 
 /// Lets session 2 step behind two steps of session 1, and session 1 launch block 99 once session 2 waits and sleeps. Counts what
-/// it is told.
+/// it admits and is told.
 #[derive(Drop)]
 pub struct Behind {
     looks: u64,
     stepped: AtomicU64,
     waits: AtomicU64,
+    admitted: AtomicU64,
     told: AtomicU64,
 }
 
@@ -152,7 +157,24 @@ impl Behind {
             looks,
             stepped: AtomicU64::new(0),
             waits: AtomicU64::new(0),
+            admitted: AtomicU64::new(0),
             told: AtomicU64::new(0),
+        }
+    }
+
+    pub fn admitted(&self) -> u64 {
+        self.admitted.load(Ordering::SeqCst)
+    }
+
+    /// Whether it is time for the event.
+    fn is_time(&self, event: Event) -> bool {
+        match event {
+            Event::Step { session: 2 } => self.stepped.load(Ordering::SeqCst) == 2,
+            Event::Launch { block: 99, .. } => {
+                self.waits.load(Ordering::SeqCst) > 0
+                    && self.waits.fetch_add(1, Ordering::SeqCst) > YIELDS
+            }
+            _ => true,
         }
     }
 
@@ -162,20 +184,21 @@ impl Behind {
 }
 
 impl Gate for Behind {
+    ghost lets = { λ gate event. Unit {0} };
+
+    ghost knows = { λ gate item. Unit {0} };
+
     fn tries(&self) -> u64 {
         self.looks
     }
 
     fn admits(&self, event: Event) -> bool {
         yield_now();
-        match event {
-            Event::Step { session: 2 } => self.stepped.load(Ordering::SeqCst) == 2,
-            Event::Launch { block: 99, .. } => {
-                self.waits.load(Ordering::SeqCst) > 0
-                    && self.waits.fetch_add(1, Ordering::SeqCst) > YIELDS
-            }
-            _ => true,
+        let is_time = self.is_time(event);
+        if is_time {
+            self.admitted.fetch_add(1, Ordering::SeqCst);
         }
+        is_time
     }
 
     fn answered(&self, event: Event, reply: &Reply<'_>) {

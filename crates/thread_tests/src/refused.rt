@@ -142,6 +142,10 @@ struct Slow {
 }
 
 impl Gate for Slow {
+    ghost lets = { λ gate event. Unit {0} };
+
+    ghost knows = { λ gate item. Unit {0} };
+
     fn tries(&self) -> u64 {
         self.tries
     }
@@ -226,6 +230,11 @@ fn a_free_run_ends_where_the_engine_refuses(rt: HostRuntime) -> Result<(), Fail>
     let expected = ThreadFault::Engine(EngineFault::BlockNotAllowed);
     holds(&rt, fault == Some(expected), "a block that isn't there");
     holds(&rt, gate.told() == 5, "told of what was done");
+    holds(
+        &rt,
+        gate.admitted() == 7,
+        "each event is asked for until it is admitted, and no more, though it waits",
+    );
     Ok(())
 }
 

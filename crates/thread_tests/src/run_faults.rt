@@ -18,6 +18,10 @@ use std::thread::Threads;
 struct NoSecond;
 
 impl Gate for NoSecond {
+    ghost lets = { λ gate event. Unit {0} };
+
+    ghost knows = { λ gate item. Unit {0} };
+
     fn tries(&self) -> u64 {
         2
     }

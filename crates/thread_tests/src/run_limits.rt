@@ -21,6 +21,10 @@ struct Counting {
 }
 
 impl Gate for Counting {
+    ghost lets = { λ gate event. Unit {0} };
+
+    ghost knows = { λ gate item. Unit {0} };
+
     fn tries(&self) -> u64 {
         1
     }
@@ -77,6 +81,10 @@ struct Pair {
 }
 
 impl Gate for Pair {
+    ghost lets = { λ gate event. Unit {0} };
+
+    ghost knows = { λ gate item. Unit {0} };
+
     fn tries(&self) -> u64 {
         1
     }

@@ -24,6 +24,10 @@ struct Late {
 }
 
 impl Gate for Late {
+    ghost lets = { λ gate event. Unit {0} };
+
+    ghost knows = { λ gate item. Unit {0} };
+
     fn tries(&self) -> u64 {
         1
     }
@@ -89,6 +93,10 @@ fn of_two_faults_in_threads_the_first_is_told(rt: HostRuntime) -> Result<(), Fai
 struct NoSteps;
 
 impl Gate for NoSteps {
+    ghost lets = { λ gate event. Unit {0} };
+
+    ghost knows = { λ gate item. Unit {0} };
+
     fn tries(&self) -> u64 {
         1
     }

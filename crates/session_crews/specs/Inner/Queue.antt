@@ -1,11 +1,16 @@
 -- What a crew asks of who keeps what there is of its runs.
-use Rattle.std.specs.Prelude.{◌≡◌, ℕ, List, []}
+use Rattle.std.specs.Prelude.{ℕ, List}
 use Rattle.session_machine.specs.declared.reply.HistItem.{HistItem}
 use Rattle.session_machine.specs.Engine.{Engine}
 use Rattle.session_seats.specs.Orders.{Orders}
 use Rattle.session_crews.specs.declared.joined.Joined.{Joined}
 use Rattle.session_crews.specs.declared.shared.Opened.{Opened}
 use Rattle.session_crews.specs.Crews.{IsOver, IsNew}
+
+-- for how many sessions beside the control session runs are served, and how many runs wait
+pub record CounterOf : Type 0 where
+  pub sessions : ℕ
+  pub waiting : ℕ
 
 module _ {E S D T : Type 0} where
   -- what waits is new, who keeps runs may be told of each that is over, and what it keeps is as the crew has it, each at its place

@@ -14,6 +14,8 @@ use Rattle.session_crews.specs.declared.shared.Hand.TheVariants.{Session as Hand
 use Rattle.session_seats.specs.declared.fault.ThreadFault.{ThreadFault}
 use Rattle.session_seats.specs.declared.fault.ThreadFault.TheVariants as thread_faults
 use Rattle.session_machine.specs.declared.fault.EngineFault.TheVariants as engine_faults
+use Rattle.session_machine.specs.declared.reply.Reply.{Reply}
+use Rattle.session_seats.specs.Seats.{SeatOf, with_item}
 use Rattle.session_seats.specs.Orders.{Orders, IsOrder, OrderedAfter}
 use Rattle.session_seats.specs.Refusals.{IsNextIn, MayMeet}
 
@@ -98,3 +100,7 @@ is_outside thread_faults.Gate = true
 is_outside thread_faults.Memory = true
 is_outside (thread_faults.Engine engine_faults.NotYourTurn) = true
 is_outside _ = false
+
+-- the event came last in the seat
+abbrev pub HasLast : Event → SeatOf → Type 0
+HasLast event seat = (held : SeatOf) × (reply : Reply) × (seat ≡ with_item held event reply)

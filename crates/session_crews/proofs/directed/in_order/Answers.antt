@@ -1,4 +1,4 @@
-use Rattle.std.proofs.Common.{◌≡◌, ◌++◌, ◌∷◌, [], length, rules, arith}
+use Rattle.std.proofs.Common.{◌≡◌, ◌++◌, ◌∷◌, [], rules, arith}
 use Rattle.std.specs.Prelude.{IfSome}
 use Rattle.session_crews.proofs.Lists.{each_on, next_of}
 use Rattle.session_crews.proofs.directed.in_order.Goals as goal

@@ -6,6 +6,7 @@ abbrev pub invariant-loop : goal.invariant-loop
 invariant-loop g l = record {
   can : (goal.iterator-loop g).can_next l.iterator';
   finite : (goal.iterator-loop g).is_finite l.iterator';
-  event : session_of l.event ≡ (g.S.SeatAt.seat l.seat).session;
+  admitted : l.admitted ≡ l.fn.event;
+  event : session_of l.admitted ≡ (g.S.SeatAt.seat l.seat).session;
   seat : (g.S.SeatAt.seat l.seat).session ≡ (g.S.SeatAt.seat l.initial.seat).session;
 }
