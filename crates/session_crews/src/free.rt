@@ -144,7 +144,8 @@ fn start_scripts<
     seats: &'s mut [S],
     crew: &mut Vec<JoinHandle<()>>,
 ) -> Result<(), Stopped>
-    ensures { IfOk result (λ _. length crew.new.items ≡ length crew.old.items + length seats.old) }
+    ensures started { IfOk result (λ _. length crew.new.items ≡ length crew.old.items + length seats.old) }
+    ensures fault { IfErr result (λ stopped. (stopped.fault ≡ ThreadFault.Memory) ⊎ (stopped.fault ≡ ThreadFault.ThreadRefused)) }
 {
     for seat in seats.iter_mut() {
         let runner = Runner { bell, seat };

@@ -176,10 +176,10 @@ fn all_done(progress: &[Progress<'_>]) -> bool
     true
 }
 
-/// Says that a free run was stopped. Nothing but `stop` makes one.
+/// Says that a free run was stopped, and for which fault. Nothing but `stop` makes one.
 #[derive(Drop)]
 pub struct Stopped {
-    made: (),
+    fault: ThreadFault,
 }
 
 /// Keeps a fault, and wakes everyone.
@@ -188,10 +188,12 @@ pub fn stop<E: Engine, P: Scripting, R: Wait>(
     shared: &Mutex<FreeShared<'_, E, P>>,
     bell: &Condvar,
     fault: ThreadFault,
-) -> Stopped {
+) -> Stopped
+    ensures { result.fault ≡ fault }
+{
     shared.lock(rt).note(fault);
     bell.notify_all();
-    Stopped { made: () }
+    Stopped { fault }
 }
 
 /// Whether those who sleep are woken behind an event that was tried: where it may have released something, or the run is over.
