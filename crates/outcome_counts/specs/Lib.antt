@@ -5,3 +5,4 @@ pub mod Serial
 pub mod Code
 pub mod Inner
 pub mod Endings
+pub mod Tables

@@ -7,6 +7,7 @@ ghost use Rattle.spec_parser.specs.Stands.{Stands};
 ghost use Rattle.permutation_plans.specs.Regular.{IsRegular};
 ghost use Rattle.outcome_counts.specs.Code.Adding.{IsOneMore};
 ghost use Rattle.outcome_counts.specs.Counts.{Fate, HasRoom, counts_view};
+ghost use Rattle.outcome_counts.specs.Tables.{tables_made};
 ghost use Rattle.outcomes.specs.Counting.{AllCounted, ComesTo, IsFate};
 ghost use Rattle.outcomes.specs.Judging.{AllJudged, IsJudged};
 
@@ -171,6 +172,7 @@ pub fn outcomes_of<'t, W: Watch>(
     watch: &mut W,
 ) -> Result<Outcomes<'t>, RunFault>
     requires spec { Stands (spec_view spec.now) }
+    ensures tables { IfOk result (λ o. map string_bytes o.tables.items ≡ tables_made (spec_view spec.now) (blocks_of blocks.now)) }
     ensures counted { IfOk result (λ o. AllCounted (spec_view spec.now) (blocks_of blocks.now) (map string_bytes o.tables.items) o.permutations (counts_view o.counted)) }
     ensures judged { IfOk result (λ o. AllJudged (spec_view spec.now) (blocks_of blocks.now) (map string_bytes o.tables.items) o.counted.groups.items o.judged.items) }
     ensures long { IfOk result (λ o. length o.judged.items ≡ length o.counted.groups.items) }

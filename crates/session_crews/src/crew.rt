@@ -1,5 +1,6 @@
 //! What a session's thread does in the runs of a crew.
-ghost use Rattle.std.specs.Prelude.{◌≡◌, true, IfErr};
+ghost use Rattle.std.specs.Prelude.{◌≡◌, true, Err, IfErr};
+ghost use Rattle.session_machine.specs.declared.event.Event.{Event as EventOf};
 ghost use Rattle.session_crews.specs.Inner.Shared.{handed, is_outside};
 
 use crate::driven::Drives;
@@ -57,7 +58,8 @@ impl<'g, E: Engine, S: SeatAt<E>, O: Orderings, D: Drives<E> + Drop, G: Gate> Ro
         slot: &Slot<E, S, O, D>,
         session: u32,
     ) -> Result<Admitted, ThreadFault>
-        ensures { IfErr result (λ fault. is_outside fault ≡ true) }
+        ensures outside { IfErr result (λ fault. is_outside fault ≡ true) }
+        ensures gate { result ≡ Err ThreadFault.Gate → (event : EventOf) × G.refuses self.now.gate.now event }
     {
         match slot.due(rt, session) {
             Some(event) => ask(self.gate, event).ok_or(ThreadFault::Gate),

@@ -1,5 +1,5 @@
 //! Who admits the events.
-ghost use Rattle.std.specs.Prelude.{◌≡◌, true, IfSome};
+ghost use Rattle.std.specs.Prelude.{◌≡◌, true, false, IfNone, IfSome};
 ghost use Rattle.session_machine.specs.declared.event.Event.{Event as EventOf};
 ghost use Rattle.session_machine.specs.declared.reply.HistItem.{HistItem as Item};
 ghost use Rattle.session_seats.specs.Free.{last_item};
@@ -14,6 +14,9 @@ use std::thread::yield_now;
 pub trait Gate: Sync {
     // it lets the event begin
     ghost lets: { Self → EventOf → Type 0 };
+
+    // it was asked for the event, and doesn't let it begin
+    ghost refuses: { Self → EventOf → Type 0 };
 
     // it knows of the event, and what came of it
     ghost knows: { Self → Item → Type 0 };
@@ -32,7 +35,8 @@ pub trait Gate: Sync {
 
     /// Whether the event may begin now.
     fn admits(&self, event: Event) -> bool
-        ensures { result ≡ true → lets self.now event };
+        ensures lets { result ≡ true → lets self.now event }
+        ensures refuses { result ≡ false → refuses self.now event };
 
     /// Is told what came of an event.
     fn answered(&self, event: Event, reply: &Reply<'_>)
@@ -45,6 +49,8 @@ pub struct OpenGate;
 
 impl Gate for OpenGate {
     ghost lets = { λ gate event. Unit {0} };
+
+    ghost refuses = { λ gate event. ⊥ };
 
     ghost knows = { λ gate item. Unit {0} };
 
@@ -82,16 +88,17 @@ impl Admitted {
 
 /// Asks the gate for the event, as often as it may be asked.
 pub fn ask<G: Gate>(gate: &G, event: Event) -> Option<Admitted>
-    ensures { IfSome result (λ admitted. (admitted ≡ event) × G.lets gate.now event) }
+    ensures lets { IfSome result (λ admitted. (admitted ≡ event) × G.lets gate.now event) }
+    ensures refuses { IfNone result (G.refuses gate.now event) }
 {
-    if gate.is_open() {
+    if gate.is_open() || gate.admits(event) {
         return Some(Admitted { event });
     }
-    for _ in 0..gate.tries().max(1) {
+    for _ in 1..gate.tries() {
+        yield_now();
         if gate.admits(event) {
             return Some(Admitted { event });
         }
-        yield_now();
     }
     None
 }

@@ -27,6 +27,8 @@ impl Crossed {
 impl Gate for Crossed {
     ghost lets = { λ gate event. Unit {0} };
 
+    ghost refuses = { λ gate event. Unit {0} };
+
     ghost knows = { λ gate item. Unit {0} };
 
     fn tries(&self) -> u64 {
@@ -78,6 +80,8 @@ impl Handshake {
 impl Gate for Handshake {
     ghost lets = { λ gate event. Unit {0} };
 
+    ghost refuses = { λ gate event. Unit {0} };
+
     ghost knows = { λ gate item. Unit {0} };
 
     fn tries(&self) -> u64 {
@@ -114,6 +118,8 @@ impl Reversed {
 
 impl Gate for Reversed {
     ghost lets = { λ gate event. Unit {0} };
+
+    ghost refuses = { λ gate event. Unit {0} };
 
     ghost knows = { λ gate item. Unit {0} };
 

@@ -40,6 +40,8 @@ impl Backwards {
 impl Gate for Backwards {
     ghost lets = { λ gate event. Unit {0} };
 
+    ghost refuses = { λ gate event. Unit {0} };
+
     ghost knows = { λ gate item. Unit {0} };
 
     fn tries(&self) -> u64 {

@@ -56,6 +56,8 @@ impl Meeting {
 impl Gate for Meeting {
     ghost lets = { λ gate event. Unit {0} };
 
+    ghost refuses = { λ gate event. Unit {0} };
+
     ghost knows = { λ gate item. Unit {0} };
 
     fn tries(&self) -> u64 {
@@ -95,6 +97,8 @@ impl Telling {
 impl Gate for Telling {
     ghost lets = { λ gate event. Unit {0} };
 
+    ghost refuses = { λ gate event. Unit {0} };
+
     ghost knows = { λ gate item. Unit {0} };
 
     fn tries(&self) -> u64 {
@@ -126,6 +130,8 @@ pub struct Shut {
 impl Gate for Shut {
     ghost lets = { λ gate event. Unit {0} };
 
+    ghost refuses = { λ gate event. Unit {0} };
+
     ghost knows = { λ gate item. Unit {0} };
 
     fn tries(&self) -> u64 {
@@ -149,6 +155,8 @@ pub struct Open {
 
 impl Gate for Open {
     ghost lets = { λ gate event. Unit {0} };
+
+    ghost refuses = { λ gate event. Unit {0} };
 
     ghost knows = { λ gate item. Unit {0} };
 

@@ -121,6 +121,8 @@ impl Counting {
 impl Gate for Counting {
     ghost lets = { λ gate event. Unit {0} };
 
+    ghost refuses = { λ gate event. Unit {0} };
+
     ghost knows = { λ gate item. Unit {0} };
 
     fn tries(&self) -> u64 {
@@ -185,6 +187,8 @@ impl Behind {
 
 impl Gate for Behind {
     ghost lets = { λ gate event. Unit {0} };
+
+    ghost refuses = { λ gate event. Unit {0} };
 
     ghost knows = { λ gate item. Unit {0} };
 

@@ -144,6 +144,8 @@ struct Slow {
 impl Gate for Slow {
     ghost lets = { λ gate event. Unit {0} };
 
+    ghost refuses = { λ gate event. Unit {0} };
+
     ghost knows = { λ gate item. Unit {0} };
 
     fn tries(&self) -> u64 {

@@ -23,6 +23,8 @@ struct Counting {
 impl Gate for Counting {
     ghost lets = { λ gate event. Unit {0} };
 
+    ghost refuses = { λ gate event. Unit {0} };
+
     ghost knows = { λ gate item. Unit {0} };
 
     fn tries(&self) -> u64 {
@@ -82,6 +84,8 @@ struct Pair {
 
 impl Gate for Pair {
     ghost lets = { λ gate event. Unit {0} };
+
+    ghost refuses = { λ gate event. Unit {0} };
 
     ghost knows = { λ gate item. Unit {0} };
 

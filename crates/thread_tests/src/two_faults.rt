@@ -26,6 +26,8 @@ struct Late {
 impl Gate for Late {
     ghost lets = { λ gate event. Unit {0} };
 
+    ghost refuses = { λ gate event. Unit {0} };
+
     ghost knows = { λ gate item. Unit {0} };
 
     fn tries(&self) -> u64 {
@@ -94,6 +96,8 @@ struct NoSteps;
 
 impl Gate for NoSteps {
     ghost lets = { λ gate event. Unit {0} };
+
+    ghost refuses = { λ gate event. Unit {0} };
 
     ghost knows = { λ gate item. Unit {0} };
 
