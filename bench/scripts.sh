@@ -186,7 +186,7 @@ def suites():
     case("regress --update writes the text that was printed", open(expected, "rb").read() == right and regress("phantom").returncode == 0)
     put("suite/specs/refused.spec", "session s step a { SELEC; }\n")
     case("regress: a file that is refused fails, whatever its text", regress("refused").returncode == 1)
-    case("regress: a name that isn't there, or no folder, is refused", regress("nothing").returncode != 0 and run([f"{here}/regress", "nowhere"]).returncode == 2)
+    case("regress: a name, a folder or a program that isn't there is refused", regress("nothing").returncode == 2 and run([f"{here}/regress", "nowhere"]).returncode == 2 and regress("--program", "nowhere").returncode == 2)
 
 
 def installed():

@@ -1,6 +1,6 @@
 //! What the tests ask, and of what.
 
-use iso_lexer::Source;
+use iso_lexer::{FromStd, Source};
 use permutations::{serve, serve_at_terminal};
 use std::alloc::{AllocError, Global};
 use std::process::Abort;
@@ -58,6 +58,23 @@ pub fn served<S: Source, R: Threads + Wait + Sync>(
     let mut err = Takes::new(puts.1);
     let status = serve(rt, alloc, words.as_slice(), input, &mut out, &mut err);
     ended(status, out, err)
+}
+
+/// A run of the program without words: its status, and all that it put out.
+pub fn served_whole<S: Source, R: Threads + Wait + Sync>(
+    rt: &R,
+    alloc: Global,
+    input: &mut S,
+) -> Result<(u8, Vec<u8>), AllocError> {
+    let words = words_of(alloc, &[])?;
+    let mut out = Vec::new(alloc);
+    let mut sink = FromStd::new(&mut out);
+    let mut err = Takes::new(usize::MAX);
+    let status = serve(rt, alloc, words.as_slice(), input, &mut sink, &mut err);
+    if tells_of_memory(err.text()) {
+        return Err(AllocError);
+    }
+    Ok((status, out))
 }
 
 /// A run of the program at a terminal, which is its input too where that is typed.

@@ -77,58 +77,30 @@ fn faults_of_tokens(rt: HostRuntime) -> Result<(), AllocError> {
 }
 
 #[test]
+fn what_a_spec_lacks(rt: HostRuntime) -> Result<(), AllocError> {
+    for (what, at, line) in [
+        (What::Session, 0, "S1 Expected Session at byte 0"),
+        (What::Step, 1_048_576, "S1 Expected Step at byte 1048576"),
+        (What::Name, 17, "S1 Expected Name at byte 17"),
+        (What::Block, 17, "S1 Expected Block at byte 17"),
+        (What::Marker, 17, "S1 Expected Marker at byte 17"),
+        (What::Item, 17, "S1 Expected Item at byte 17"),
+        (
+            What::CommaOrClose,
+            17,
+            "S1 Expected CommaOrClose at byte 17",
+        ),
+    ] {
+        let fault = SpecFault::Expected { what, at };
+        is_told(&rt, rt.alloc(), RunFault::Spec(fault), line)?;
+    }
+    Ok(())
+}
+
+#[test]
 fn faults_of_a_spec(rt: HostRuntime) -> Result<(), AllocError> {
     let at = 1_048_576;
     for (fault, line) in [
-        (
-            SpecFault::Expected {
-                what: What::Session,
-                at: 0,
-            },
-            "S1 Expected Session at byte 0",
-        ),
-        (
-            SpecFault::Expected {
-                what: What::Step,
-                at,
-            },
-            "S1 Expected Step at byte 1048576",
-        ),
-        (
-            SpecFault::Expected {
-                what: What::Name,
-                at,
-            },
-            "S1 Expected Name at byte 1048576",
-        ),
-        (
-            SpecFault::Expected {
-                what: What::Block,
-                at,
-            },
-            "S1 Expected Block at byte 1048576",
-        ),
-        (
-            SpecFault::Expected {
-                what: What::Marker,
-                at,
-            },
-            "S1 Expected Marker at byte 1048576",
-        ),
-        (
-            SpecFault::Expected {
-                what: What::Item,
-                at,
-            },
-            "S1 Expected Item at byte 1048576",
-        ),
-        (
-            SpecFault::Expected {
-                what: What::CommaOrClose,
-                at,
-            },
-            "S1 Expected CommaOrClose at byte 1048576",
-        ),
         (
             SpecFault::DuplicateStep { at },
             "S2 DuplicateStep at byte 1048576",

@@ -3,6 +3,9 @@
 use crate::asking::{ENDLESS, ends, holds, served, words_of};
 use program_words::{Options, options_of, status_of};
 use std::alloc::{AllocError, Global};
+use std::process::Abort;
+use std::sync::Wait;
+use std::thread::Threads;
 use test_devices::Gives;
 
 /// The status where memory was refused.
@@ -50,51 +53,64 @@ const TRY_HELP: &str = "\n\nFor more information, try '--help'.\n";
 
 const USAGE: &str = "\n\nUsage: isolationtester [OPTIONS] < FILE";
 
+/// The words are refused, in these words and with this usage, before anything is read.
+fn are_refused<R: Threads + Wait + Sync + Abort>(
+    rt: &R,
+    alloc: Global,
+    words: &[&str],
+    fault: &str,
+    usage: &str,
+) -> Result<(), AllocError> {
+    let text = format!(in alloc; "error: {fault}{usage}{TRY_HELP}")?;
+    let mut input = Gives::new("", 0);
+    let run = served(rt, alloc, words, &mut input, ENDLESS)?;
+    ends(rt, &run, 2, "", text.as_str());
+    holds(rt, !input.failed, "nothing is read");
+    Ok(())
+}
+
 #[test]
-fn other_words_are_refused(rt: HostRuntime) -> Result<(), AllocError> {
-    let alloc = rt.alloc();
-    for (words, fault, usage) in [
+fn other_limits_are_refused(rt: HostRuntime) -> Result<(), AllocError> {
+    for (words, fault) in [
         (
             ["--limit", "x"].as_slice(),
             "invalid value 'x' for '--limit <N>': invalid digit found in string",
-            "",
         ),
         (
             ["--limit", "4294967296"].as_slice(),
             "invalid value '4294967296' for '--limit <N>': 4294967296 is not in 0..=4294967295",
-            "",
         ),
         (
             ["--limit"].as_slice(),
             "a value is required for '--limit <N>' but none was supplied",
-            "",
         ),
+    ] {
+        are_refused(&rt, rt.alloc(), words, fault, "")?;
+    }
+    Ok(())
+}
+
+#[test]
+fn other_words_are_refused(rt: HostRuntime) -> Result<(), AllocError> {
+    for (words, fault) in [
         (
             ["--list", "--list"].as_slice(),
             "the argument '--list' cannot be used multiple times",
-            USAGE,
         ),
         (
             ["--limit", "-1"].as_slice(),
             "unexpected argument '-1' found",
-            USAGE,
         ),
         (
             ["--threads"].as_slice(),
             "unexpected argument '--threads' found",
-            USAGE,
         ),
         (
             ["file.spec"].as_slice(),
             "unexpected argument 'file.spec' found",
-            USAGE,
         ),
     ] {
-        let text = format!(in alloc; "error: {fault}{usage}{TRY_HELP}")?;
-        let mut input = Gives::new("", 0);
-        let run = served(&rt, alloc, words, &mut input, ENDLESS)?;
-        ends(&rt, &run, 2, "", text.as_str());
-        holds(&rt, !input.failed, "nothing is read");
+        are_refused(&rt, rt.alloc(), words, fault, USAGE)?;
     }
     Ok(())
 }
