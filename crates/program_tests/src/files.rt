@@ -9,7 +9,7 @@ const ONE_STEP: &str = "session s step a { }";
 const ONE_STEP_TEXT: &str =
     "Parsed test spec with 1 sessions\n\nstarting permutation: a\nstep a: \n";
 
-/// How many entries of a permutation come to 1,100 bytes of its text and more each.
+/// How many entries print more than 1,100 bytes each.
 const LONG_STEPS: usize = 999;
 
 const TOO_LONG: &str = "isolationtester: L5 FileTooLong at byte 1048576\n";
@@ -39,7 +39,7 @@ fn the_longest_file_runs_and_one_byte_more_is_too_long(rt: HostRuntime) -> Resul
     Ok(())
 }
 
-/// The text so many times.
+/// So many copies of the text, one behind the other.
 fn repeated(alloc: Global, text: &str, count: usize) -> Result<String, AllocError> {
     let mut all = String::new(alloc);
     for _ in 0..count {
@@ -48,7 +48,7 @@ fn repeated(alloc: Global, text: &str, count: usize) -> Result<String, AllocErro
     Ok(all)
 }
 
-/// A statement without a result, 1,100 bytes long and more.
+/// A statement of more than 1,100 bytes that has no result.
 fn long_statement(alloc: Global) -> Result<String, AllocError> {
     let mut sql = String::from_str(alloc, "DELETE FROM t /* ")?;
     sql.push_str(repeated(alloc, "y", 1_100)?.as_str())?;
