@@ -1,7 +1,7 @@
 -- What the walks along the links find.
 use Rattle.std.proofs.Common.{◌≡◌, ℕ, zero, suc, ◌+◌, ◌<◌, ◌≤◌, Bool, true, false, ◌||◌, ◌==◌, ◌⊎◌, List, [], ◌∷◌, ◌++◌, length, Some, None, is_some, slice_get, get_or, take, refl, sym, ◌∙◌, ap, subst, inl, inr, arith, All, AllPairs, Contains}
 use Rattle.std.specs.List.Sorted.{IsStrictlyIncreasing, IsPermutation, IsNonDecreasingBy}
-use Rattle.std.proofs.lemmas.Bool.{and_from, or_left, or_right, or_cases, ne_eqb, eqb-false, and_parts, both_ways, cases_lt, cases_order, eq-eqb, eqb-true, not_from_false, false_from_ne_true}
+use Rattle.std.proofs.lemmas.Bool.{and_from, or_left, or_right, or_cases, ne_eqb, eqb-false, and_parts, both_ways, cases_Bool, cases_lt, cases_order, eq-eqb, eqb-true, not_from_false, false_from_ne_true}
 use Rattle.std.proofs.lemmas.Option.{same_Some}
 use Rattle.std.proofs.lemmas.List.Elements.{All-nil, All-push, All-contains, Contains-append_left, Contains-push}
 use Rattle.std.proofs.lemmas.List.{take_more, get_or-take, length-take-le}
@@ -21,11 +21,12 @@ use Rattle.row_versions.specs.declared.write.Seen.{Seen}
 use Rattle.row_versions.specs.Log.{Content, has_committed}
 use Rattle.row_versions.specs.Members.{same_tx}
 use Rattle.row_versions.specs.View.{sees}
-use Rattle.row_versions.specs.Rows.{rows_of}
+use Rattle.row_versions.specs.Rows.{is_row, rows_of}
 use Rattle.row_versions.specs.Newest.{newest_of}
 use Rattle.row_versions.specs.Laws.{CountsFor, IsAt, IsShown}
 use Rattle.row_versions.proofs.Seeing.{same_row, same_table, same_tx as same_tx_id}
 use Rattle.row_versions.proofs.Shown.{rows_follow_the_log, rows_from_shown, shown_from_rows}
+use Rattle.row_versions.proofs.Placed.{no_row_here, row_here}
 use Rattle.row_versions.proofs.Last.{newest_is_the_last}
 use Rattle.chain_store.specs.declared.links.Links.{Links}
 use Rattle.chain_store.specs.declared.walk.Asker.TheVariants.{ByView, ByTx}
@@ -276,3 +277,28 @@ newest_is c links row tx place h stands last =
           let l : later ≤ place = last.last later there (passes_there c.log _ later w at passes) in
           omega arith;
     })
+
+-- no row stands where the log has no write
+pub no_row_without : (c : Content) (view : View) (table : TableId) (place : ℕ) → slice_get c.log place ≡ None → is_row c view table place ≡ false
+no_row_without c view table place none =
+    no_row_here c view table place (λ seen e shown. let at : Some shown.write ≡ None = sym shown.there ∙ ap (slice_get c.log) e ∙ none in cc)
+
+-- a version at the place is of the row of the write there
+its_row_there : (c : Content) (view : View) (table : TableId) (place : ℕ) (w : Write) (seen : Seen) → IsAt c place w → seen.place ≡ place → IsShown c view table seen → seen.row ≡ w.row
+its_row_there c view table place w seen at e shown =
+    sym shown.its_row ∙ ap (λ (v : Write). v.row) (same_Some shown.write w (sym shown.there ∙ ap (slice_get c.log) e ∙ at))
+
+-- nor where no version of the row of the write there is shown
+pub no_row_of : (c : Content) (view : View) (table : TableId) (place : ℕ) (w : Write) → IsAt c place w
+    → ((seen : Seen) → seen.row.0 ≡ w.row.0 → IsShown c view table seen → ⊥) → is_row c view table place ≡ false
+no_row_of c view table place w at none =
+    no_row_here c view table place (λ seen e shown. none seen (ap (λ (r : RowId). r.0) (its_row_there c view table place w seen at e shown)) shown)
+
+-- where one is, a row stands there if it is that one
+pub row_if_there : (c : Content) (view : View) (table : TableId) (place : ℕ) (w : Write) (seen : Seen) → IsAt c place w → seen.row.0 ≡ w.row.0 → IsShown c view table seen
+    → (seen.place == place) ≡ is_row c view table place
+row_if_there c view table place w seen at its shown = elim (cases_Bool (seen.place == place)) [
+  | inl here ↦ here ∙ sym (ap (is_row c view table) (sym (eqb-true _ _ here)) ∙ row_here c view table seen shown)
+  | inr other ↦ other ∙ sym (no_row_here c view table place (λ found e f.
+      eqb-false _ _ other (ap (λ (s : Seen). s.place) (shown_once c view table seen found shown f (same_row _ _ its ∙ sym (its_row_there c view table place w found at e f))) ∙ e)))
+]

@@ -5,6 +5,7 @@ ghost use Rattle.row_versions.specs.declared.write.Seen.{Seen};
 ghost use Rattle.row_versions.specs.Laws.{IsShown};
 ghost use Rattle.row_versions.specs.Log.{empty_content};
 ghost use Rattle.row_versions.specs.Newest.{newest_of};
+ghost use Rattle.row_versions.specs.Rows.{is_row};
 ghost use Rattle.chain_store.specs.Inner.Linked.{AreLinks, HasTheShown, Stands, rolled_back};
 
 use crate::links::{Links, strike};
@@ -77,6 +78,21 @@ fn shown_of(list: &ListStore, links: &Links, view: &View, table: TableId, row: u
         row: RowId(row),
         place: place as u64,
     })
+}
+
+/// Whether the view shows the version at the place as a row of the table.
+fn is_shown(list: &ListStore, links: &Links, view: &View, table: TableId, place: u64) -> bool
+    requires linked { AreLinks list.now links.now }
+    requires stands { Stands list.now view.now }
+    ensures { result ≡ is_row list.now view.now table place }
+{
+    let Some(write) = list.log().get(place as usize) else {
+        return false;
+    };
+    match shown_of(list, links, view, table, write.row.0) {
+        Some(seen) => seen.place == place,
+        None => false,
+    }
 }
 
 /// The versions that the view shows in the table, in the order of their rows.
@@ -173,6 +189,13 @@ impl Versions for ChainStore {
         let mut rows = shown_rows(self.alloc, &self.list, &self.links, view, table)?;
         rows.sort_unstable_by_key(|seen| seen.place);
         Ok(rows)
+    }
+
+    fn shows(&self, view: &View, table: TableId, seen: &Seen) -> bool {
+        if !self.plain && !is_rolled_back(&self.list, view) {
+            return is_shown(&self.list, &self.links, view, table, seen.place);
+        }
+        self.list.shows(view, table, seen)
     }
 
     fn newest(&self, row: RowId, tx: TxId) -> Option<Seen> {

@@ -4,3 +4,4 @@ pub mod Filtered
 pub mod Shown
 pub mod Last
 pub mod OpenTxs
+pub mod Placed

@@ -18,3 +18,7 @@ is_shown c view table place w =
 abbrev pub rows_of : Content → View → TableId → List Seen
 rows_of c view table =
     map (λ (e : ℕ × Write). record { row = e.1.row; place = e.0 }) (filter (λ e. is_shown c view table e.0 e.1) (enumerate_from 0 c.log))
+
+-- the version at the place is one of the rows of the table in the view
+abbrev pub is_row : Content → View → TableId → ℕ → Bool
+is_row c view table place = list_any (λ (s : Seen). s.place == place) (rows_of c view table)

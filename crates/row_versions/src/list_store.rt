@@ -5,7 +5,7 @@ ghost use Rattle.row_versions.specs.declared.write.Fate.TheVariants.{RolledBack}
 ghost use Rattle.row_versions.specs.Log.{Content, empty_content, fate_of};
 ghost use Rattle.row_versions.specs.Members.{same_tx};
 ghost use Rattle.row_versions.specs.View.{sees};
-ghost use Rattle.row_versions.specs.Inner.Searching.{replaces, shows, rows_from, is_version, newest_from};
+ghost use Rattle.row_versions.specs.Inner.Searching.{replaces, shows, shows_at, rows_from, is_version, newest_from};
 
 use crate::names::{RowId, TableId, TxId};
 use crate::versions::Versions;
@@ -108,6 +108,15 @@ fn shows(fates: &[Fate], view: &View, table: TableId, write: &Write, later: &[Wr
         && write.values.is_some()
         && is_seen(fates, view, write)
         && !is_replaced(fates, view, write.row, later)
+}
+
+fn shows_at(log: &[Write], fates: &[Fate], view: &View, table: TableId, place: usize) -> bool
+    ensures { result ≡ shows_at fates.now view.now table log.now place }
+{
+    match log.get(place) {
+        Some(write) => shows(fates, view, table, write, &log[place + 1..]),
+        None => false,
+    }
 }
 
 fn shown_rows(
@@ -216,6 +225,11 @@ impl Versions for ListStore {
     #[tactic(auto, using(crate::proofs::Filtered::rows_are))]
     fn rows(&self, view: &View, table: TableId) -> Result<Vec<Seen>, AllocError> {
         shown_rows(*self.log.allocator(), &self.log, &self.fates, view, table)
+    }
+
+    #[tactic(auto, using(crate::proofs::Filtered::is_row_where_shown))]
+    fn shows(&self, view: &View, table: TableId, seen: &Seen) -> bool {
+        shows_at(&self.log, &self.fates, view, table, seen.place as usize)
     }
 
     #[tactic(auto, using(crate::proofs::Last::newest_is))]

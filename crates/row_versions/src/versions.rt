@@ -2,7 +2,7 @@
 ghost use Rattle.std.specs.Prelude.{◌≡◌, IfOk, OnOk, OnErr, IfErr, unwrap_or};
 ghost use Rattle.std.specs.Option.{option_copied};
 ghost use Rattle.row_versions.specs.Log.{Content, commit_count, IsOpen, after_begin, after_commit, after_roll_back, after_write, has_committed, next_tx, new_row, open_in, values_at};
-ghost use Rattle.row_versions.specs.Rows.{rows_of};
+ghost use Rattle.row_versions.specs.Rows.{is_row, rows_of};
 ghost use Rattle.row_versions.specs.Newest.{newest_of};
 
 use crate::names::{RowId, TableId, TxId};
@@ -52,6 +52,10 @@ pub trait Versions: Drop {
     /// The rows of the table in the view, in the order in which their shown versions were written.
     fn rows(&self, view: &View, table: TableId) -> Result<Vec<Seen>, AllocError>
         ensures { IfOk result (λ rows. rows.items ≡ rows_of (content self.now) view.now table) };
+
+    /// Whether the view shows the version as a row of the table. It takes no memory.
+    fn shows(&self, view: &View, table: TableId, seen: &Seen) -> bool
+        ensures { result ≡ is_row (content self.now) view.now table seen.now.place };
 
     /// The newest version of the row for the transaction: the last write of it that is committed or by `tx`,
     /// also one that deletes it. It takes no memory.

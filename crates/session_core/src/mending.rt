@@ -41,8 +41,8 @@ impl<'a, 't, V: Versions> Live<'a, 't, V> {
         ensures { IfOk result (λ found. SameMembers found (in_the_way self.now.db session.now)) }
     {
         match (&session.transaction, &session.statement) {
-            (Transaction::Open(by), Some(progress)) => {
-                let found = self.db.blockers(&progress.wait.request, by.tx)?;
+            (Transaction::Open(by), Some(paused)) => {
+                let found = self.db.blockers(&paused.progress().wait.request, by.tx)?;
                 Ok(Blockers::of(found))
             }
             _ => Ok(Blockers::of(SmallVec::new(self.db.alloc()))),
@@ -54,8 +54,9 @@ impl<'a, 't, V: Versions> Live<'a, 't, V> {
         ensures { IfOk result (λ yes. yes ≡ is_in_the_way self.now.db session.now holder) }
     {
         match (&session.transaction, &session.statement) {
-            (Transaction::Open(by), Some(progress)) => {
-                self.db.is_blocked_by(holder, &progress.wait.request, by.tx)
+            (Transaction::Open(by), Some(paused)) => {
+                let request = &paused.progress().wait.request;
+                self.db.is_blocked_by(holder, request, by.tx)
             }
             _ => Ok(false),
         }

@@ -56,7 +56,7 @@ impl<'a, 't, V: Versions> Live<'a, 't, V> {
             return None;
         }
         match &current.statement {
-            Some(progress) => Some(progress.wait.number),
+            Some(paused) => Some(paused.progress().wait.number),
             None => None,
         }
     }

@@ -1,2 +1,3 @@
 pub mod Erring
 pub mod Waiting
+pub mod Dropping

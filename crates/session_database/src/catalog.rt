@@ -2,10 +2,11 @@
 
 ghost use Rattle.std.specs.Prelude.{◌≡◌, ◌<◌, [], length, map, IfSome, OnOk};
 ghost use Rattle.sql_trees.specs.Statements.{create_of, column_of, key_of, name_of};
-ghost use Rattle.session_machine.specs.Tables.{counts, is_meant};
-ghost use Rattle.session_machine.specs.Inner.Pieces.{is_own, is_dropped, table_columns, table_keys, with_table, with_drop, find_from};
+ghost use Rattle.session_machine.specs.Tables.{is_meant};
+ghost use Rattle.session_machine.specs.Inner.Pieces.{table_columns, table_keys, with_table, with_drop, find_from};
 
-use crate::table::{Dropped, Table};
+use crate::drops::{Drops, does_count};
+use crate::table::Table;
 use iso_lexer::{Name, same_name};
 use row_versions::{TxId, Versions};
 use sql_trees::{Column, CreateTable, Key};
@@ -16,7 +17,7 @@ use std::marker::Model;
 #[derive(Drop)]
 pub struct Catalog<'a, 't> {
     tables: Vec<Table<'a, 't>>,
-    drops: Vec<Dropped>,
+    drops: Drops,
 }
 
 impl<'a, 't> Model for Catalog<'a, 't> {
@@ -24,35 +25,13 @@ impl<'a, 't> Model for Catalog<'a, 't> {
 
     ghost Value = { CatalogFacts };
 
-    ghost view = { λ c. record { tables = c.tables.items; drops = c.drops.items } };
-}
-
-fn is_own(own: Option<TxId>, tx: TxId) -> bool
-    ensures { result ≡ is_own own tx }
-{
-    match own {
-        Some(own) => own.0 == tx.0,
-        None => false,
-    }
-}
-
-/// Whether what the transaction did counts for `own`: it is committed, or one's own.
-fn does_count<V: Versions>(store: &V, own: Option<TxId>, tx: TxId) -> bool
-    ensures { result ≡ counts (V.content store.now) own tx }
-{
-    store.has_committed(tx) || is_own(own, tx)
-}
-
-fn has_drop<V: Versions>(store: &V, own: Option<TxId>, drops: &[Dropped], place: usize) -> bool
-    ensures { result ≡ is_dropped (V.content store.now) own drops.now place }
-{
-    drops.iter().any(|dropped| dropped.table() == place && does_count(store, own, dropped.by()))
+    ghost view = { λ c. record { tables = c.tables.items; drops = c.drops } };
 }
 
 fn is_table<V: Versions>(
     store: &V,
     own: Option<TxId>,
-    drops: &[Dropped],
+    drops: &Drops,
     name: &Name<'_>,
     place: usize,
     table: &Table<'_, '_>,
@@ -61,13 +40,13 @@ fn is_table<V: Versions>(
 {
     same_name(&table.made().name, name)
         && does_count(store, own, table.by())
-        && !has_drop(store, own, drops, place)
+        && !drops.has(store, own, place)
 }
 
 fn find_in<V: Versions>(
     store: &V,
     own: Option<TxId>,
-    drops: &[Dropped],
+    drops: &Drops,
     name: &Name<'_>,
     tables: &[Table<'_, '_>],
 ) -> Option<usize>
@@ -89,7 +68,7 @@ impl<'a, 't> Catalog<'a, 't> {
     {
         Catalog {
             tables: Vec::new(alloc),
-            drops: Vec::new(alloc),
+            drops: Drops::new(alloc),
         }
     }
 
@@ -98,13 +77,7 @@ impl<'a, 't> Catalog<'a, 't> {
         ensures first { result ≡ find_from (V.content store.now) own self.now.drops (name_of name.now) 0 self.now.tables }
         ensures within { IfSome result (λ place. place < length self.now.tables) }
     {
-        find_in(
-            store,
-            own,
-            self.drops.as_slice(),
-            name,
-            self.tables.as_slice(),
-        )
+        find_in(store, own, &self.drops, name, self.tables.as_slice())
     }
 
     /// How many tables were made.
@@ -142,7 +115,6 @@ impl<'a, 't> Catalog<'a, 't> {
     pub fn add_drop(&mut self, place: usize, by: TxId) -> Result<(), AllocError>
         ensures { OnOk result (self.new ≡ with_drop self.old place by) }
     {
-        self.drops.push(Dropped::new(place, by))?;
-        Ok(())
+        self.drops.add(place, by)
     }
 }

@@ -1,11 +1,9 @@
 //! Keys: what a row meets that is about to be written (PostgreSQL manual, 5.5.3, and the page of INSERT, "ON CONFLICT Clause").
 
-ghost use Rattle.std.specs.Prelude.{◌≡◌, ◌≢◌, ◌<◌, ◌==◌, ◌++◌, ◌∷◌, List, None, length, map, option_map, IfOk, OnErr};
-ghost use Rattle.std.specs.List.{list_any};
+ghost use Rattle.std.specs.Prelude.{◌≡◌, ◌≢◌, ◌<◌, ◌++◌, ◌∷◌, List, None, length, map, option_map, IfOk, OnErr};
 ghost use Rattle.sql_trees.specs.Statements.{column_of, key_name, key_of, name_of};
 ghost use Rattle.sql_trees.specs.Inner.KeyNames.{underscored};
 ghost use Rattle.row_versions.specs.declared.names.TxId.{TxId as TxFacts};
-ghost use Rattle.row_versions.specs.declared.write.Seen.{Seen as SeenFacts};
 ghost use Rattle.row_versions.specs.Log.{IsOpen};
 ghost use Rattle.row_locks.specs.Cycles.{closes};
 ghost use Rattle.update_recheck.specs.Settling.{SameMembers};
@@ -92,13 +90,6 @@ pub(crate) fn learn_keys(
         index.learn(table, &key.columns)?;
     }
     Ok(())
-}
-
-/// Whether one of the versions stands at the place.
-fn has_place(versions: &[Seen], place: u64) -> bool
-    ensures { result ≡ list_any (λ (s : SeenFacts). s.place == place) versions.now }
-{
-    versions.iter().any(|version| version.place == place)
 }
 
 impl<'a, 't, V: Versions> Database<'a, 't, V> {
@@ -208,27 +199,22 @@ impl<'a, 't, V: Versions> Database<'a, 't, V> {
     }
 
     /// Whether the statement's view shows the version, or its transaction wrote it.
-    fn is_known(&self, work: &Work<'_>, version: &Seen) -> Result<bool, AllocError>
-        ensures { IfOk result (λ yes. yes ≡ is_known self.now work.now version.now) }
+    fn is_known(&self, work: &Work<'_>, version: &Seen) -> bool
+        ensures { result ≡ is_known self.now work.now version.now }
     {
-        let shown = self.seen_by(work)?;
-        Ok(has_place(&shown, version.place) || self.is_own(work, version))
+        let table = TableId(work.place as u64);
+        self.store.shows(&work.view, table, version) || self.is_own(work, version)
     }
 
     /// The key is taken by this version, and the statement does nothing where it is.
-    fn does_nothing(&self, work: &Work<'_>, version: &Seen) -> Result<Meets<'t>, AllocError>
-        ensures met { IfOk result (λ met. meets_of met ≡ does_nothing self.now work.now version.now) }
-        // At Read Committed nothing is looked up.
-        ensures memory { OnErr result (work.now.t.level ≡ Level.RepeatableRead) }
+    fn does_nothing(&self, work: &Work<'_>, version: &Seen) -> Meets<'t>
+        ensures { meets_of result ≡ does_nothing self.now work.now version.now }
     {
-        let is_passed = match work.by.level {
-            Level::ReadCommitted => true,
-            Level::RepeatableRead => self.is_known(work, version)?,
-        };
-        if is_passed {
-            Ok(Meets::PassesOver)
-        } else {
-            Ok(Meets::Stops(Stop::Fails(StmtFault::NotSerializable)))
+        match work.by.level {
+            Level::RepeatableRead if !self.is_known(work, version) => {
+                Meets::Stops(Stop::Fails(StmtFault::NotSerializable))
+            }
+            _ => Meets::PassesOver,
         }
     }
 
@@ -250,7 +236,7 @@ impl<'a, 't, V: Versions> Database<'a, 't, V> {
     {
         match self.find_key(work, key, values, except)? {
             Found::Free => Ok(None),
-            Found::Taken(version) if do_nothing => { Ok(Some(self.does_nothing(work, &version)?)) }
+            Found::Taken(version) if do_nothing => Ok(Some(self.does_nothing(work, &version))),
             Found::Taken(_) => {
                 let fault = self.taken(work, name, key)?;
                 Ok(Some(Meets::Stops(Stop::Fails(fault))))

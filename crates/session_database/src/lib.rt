@@ -3,6 +3,7 @@
 
 mod catalog;
 mod database;
+mod drops;
 mod keys;
 mod settle;
 mod stop;

@@ -72,8 +72,8 @@ impl<'a, 't, V: Versions> Database<'a, 't, V> {
         ensures { (a b : TxFacts) → OnOk result (blocks waits.new a b ≡ (blocks waits.old a b || stands_in_way_of (waiting_in self.now session.now) a b)) }
     {
         match (&session.transaction, &session.statement) {
-            (Transaction::Open(by), Some(progress)) => {
-                self.add_request(waits, by.tx, &progress.wait.request)
+            (Transaction::Open(by), Some(paused)) => {
+                self.add_request(waits, by.tx, &paused.progress().wait.request)
             }
             _ => Ok(()),
         }

@@ -22,7 +22,7 @@ use Rattle.row_versions.specs.declared.write.Seen.{Seen}
 use Rattle.row_versions.specs.declared.write.Write.{Write}
 use Rattle.row_versions.specs.Log.{values_at, new_row, after_write}
 use Rattle.row_versions.specs.Members.{is_none_of, same_tx}
-use Rattle.row_versions.specs.Rows.{rows_of}
+use Rattle.row_versions.specs.Rows.{is_row, rows_of}
 use Rattle.row_versions.specs.Newest.{newest_of}
 use Rattle.row_locks.specs.Held.{with_lock}
 use Rattle.row_locks.specs.Cycles.{closes}
@@ -75,7 +75,7 @@ pub data Meets : Type 0 where
 -- the transaction knows the version: its statement's view shows it, or it wrote it itself
 abbrev pub is_known : Database → Work → Seen → Bool
 is_known db w version =
-    list_any (λ (s : Seen). s.place == version.place) (rows_of db.content w.view (record { 0 = w.table })) || option_map_or (λ (x : Write). same_tx x.tx w.t.tx) (slice_get db.content.log version.place) false
+    is_row db.content w.view (record { 0 = w.table }) version.place || option_map_or (λ (x : Write). same_tx x.tx w.t.tx) (slice_get db.content.log version.place) false
 
 -- ON CONFLICT DO NOTHING passes a row over whose key is taken; in Repeatable Read only where the transaction knows the version that has it (INSERT, "ON CONFLICT Clause"; 13.2.2)
 abbrev pub does_nothing : Database → Work → Seen → Meets

@@ -5,6 +5,7 @@ mod copies;
 mod engine;
 mod event;
 mod fault;
+mod paused;
 mod reply;
 mod running;
 mod same;
@@ -13,6 +14,7 @@ mod session;
 pub use engine::{Answers, Engine};
 pub use event::{Event, Mode, Order, Turn};
 pub use fault::{EngineFault, KeyName, Refusal, StmtFault};
+pub use paused::Paused;
 pub use reply::{HistItem, Outcome, Reply};
 pub use running::is_definition;
 pub use session::{

@@ -3,6 +3,7 @@
 ghost use Rattle.std.specs.Prelude.{◌≡◌};
 ghost use Rattle.session_machine.specs.Machine.{at_rest};
 
+use crate::paused::Paused;
 use row_versions::{RowId, TableId, TxId, View};
 use sql_trees::{Level, Strength};
 use sql_values::Row;
@@ -116,7 +117,7 @@ pub struct Session {
     pub place: Option<Place>,
     pub transaction: Transaction,
     /// The statement that it is in the middle of, which waits.
-    pub statement: Option<Progress>,
+    pub statement: Option<Paused>,
 }
 
 impl Session {

@@ -3,13 +3,13 @@
 ghost use Rattle.std.specs.Prelude.{◌≡◌, None};
 
 use row_versions::Seen;
-use session_machine::{Outcome, Progress, Transaction};
+use session_machine::{Outcome, Paused, Transaction};
 
 /// What a statement leaves of its session's transaction, where it is in the middle of its targets, and what came of it.
 #[derive(Drop)]
 pub struct Effect<'t> {
     pub transaction: Transaction,
-    pub statement: Option<Progress>,
+    pub statement: Option<Paused>,
     /// All targets of the statement that it is in the middle of.
     pub targets: Option<Vec<Seen>>,
     pub outcome: Outcome<'t>,

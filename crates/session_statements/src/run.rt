@@ -23,7 +23,7 @@ use crate::select::select_constant;
 use crate::transactions::{begin_again, run_aborted, set_level};
 use row_versions::{Seen, Versions};
 use session_database::{Database, Surroundings, Work};
-use session_machine::{OpenTransaction, Progress, Transaction};
+use session_machine::{OpenTransaction, Paused, Progress, Transaction};
 use sql_trees::{Level, Stmt};
 use sql_values::Row;
 use std::alloc::AllocError;
@@ -161,7 +161,7 @@ fn run_on<'a, 't, V: Versions>(
 pub fn run_statement<'a, 't, V: Versions>(
     db: &mut Database<'a, 't, V>,
     transaction: &Transaction,
-    statement: Option<Progress>,
+    statement: Option<Paused>,
     targets: Option<Vec<Seen>>,
     around: &Surroundings<'_>,
     stmt: &'a Stmt<'t>,
@@ -180,7 +180,9 @@ pub fn run_statement<'a, 't, V: Versions>(
     match transaction {
         Transaction::Closed => run_closed(db, around, stmt),
         Transaction::Open(by) => match (statement, targets) {
-            (Some(progress), Some(targets)) => run_on(db, by, around, progress, targets, stmt),
+            (Some(paused), Some(targets)) => {
+                run_on(db, by, around, paused.into_progress(), targets, stmt)
+            }
             (Some(_), None) => unreachable!(),
             (None, _) => run_open(db, by, around, stmt),
         },

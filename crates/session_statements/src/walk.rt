@@ -23,11 +23,11 @@ use crate::transactions::fail;
 use row_versions::{Seen, TableId, Versions};
 use session_database::{Database, Stop, Work};
 use session_machine::{
-    Gathered, OpenTransaction, Outcome, Progress, Request, Transaction, Waiting,
+    Gathered, OpenTransaction, Outcome, Paused, Progress, Request, Transaction, Waiting,
 };
 use sql_trees::Item;
 use sql_values::Row;
-use std::alloc::AllocError;
+use std::alloc::{AllocError, Global};
 
 /// Visits one target after the other, from this place on, and appends what is answered for them.
 pub(crate) fn walk<'a, 't, V: Versions>(
@@ -57,33 +57,35 @@ pub(crate) fn walk<'a, 't, V: Versions>(
 
 /// The statement waits at a target.
 fn pause<'t>(
+    alloc: Global,
     work: &Work<'_>,
     begun: OpenTransaction,
     place: usize,
     request: Request,
     rows: Vec<Row>,
     targets: Vec<Seen>,
-) -> Effect<'t>
-    ensures pauses { (before : Content) (db : DatabaseFacts) → begun ≡ started before work.now.t →
-        pauses before work.now (record { db = db; place = place; rows = rows.items; stop = Some (Blocked request) }) request ≡ left db result }
-    ensures kept { HasKept work.now targets.items result.statement result.targets }
+) -> Result<Effect<'t>, AllocError>
+    ensures pauses { (before : Content) (db : DatabaseFacts) → begun ≡ started before work.now.t → IfOk result (λ did.
+        pauses before work.now (record { db = db; place = place; rows = rows.items; stop = Some (Blocked request) }) request ≡ left db did) }
+    ensures kept { IfOk result (λ did. HasKept work.now targets.items did.statement did.targets) }
 {
     let around = work.around;
-    Effect {
+    let progress = Progress {
+        table: TableId(work.place as u64),
+        view: work.view,
+        place,
+        rows: Gathered::of(rows),
+        wait: Waiting {
+            number: around.number,
+            request,
+        },
+    };
+    Ok(Effect {
         transaction: Transaction::Open(begun),
-        statement: Some(Progress {
-            table: TableId(work.place as u64),
-            view: work.view,
-            place,
-            rows: Gathered::of(rows),
-            wait: Waiting {
-                number: around.number,
-                request,
-            },
-        }),
+        statement: Some(Paused::new(alloc, progress)?),
         targets: Some(targets),
         outcome: Outcome::Waits,
-    }
+    })
 }
 
 /// The statement waits where it halted, or fails.
@@ -93,19 +95,19 @@ fn halt<'a, 't, V: Versions>(
     halted: Halt<'t>,
     rows: Vec<Row>,
     targets: Vec<Seen>,
-) -> Effect<'t>
+) -> Result<Effect<'t>, AllocError>
     requires opened { IsOpen db.old.content work.now.t.tx }
-    ensures did { (before : Content) (outcome : List (List SqlValue) → OutcomeFacts) → before.fates ≡ db.old.content.fates →
-        halted_walk before work.now outcome db.old rows.items (Some halted.entry) ≡ left db.new result }
-    ensures kept { HasKept work.now targets.items result.statement result.targets }
+    ensures did { (before : Content) (outcome : List (List SqlValue) → OutcomeFacts) → before.fates ≡ db.old.content.fates → IfOk result (λ did.
+        halted_walk before work.now outcome db.old rows.items (Some halted.entry) ≡ left db.new did) }
+    ensures kept { IfOk result (λ did. HasKept work.now targets.items did.statement did.targets) }
 {
     let Halt { place, stop } = halted;
     match stop {
         Stop::Blocked(request) => {
             let begun = db.started(&work.by);
-            pause(work, begun, place, request, rows, targets)
+            pause(db.alloc(), work, begun, place, request, rows, targets)
         }
-        Stop::Fails(fault) => fail(db, &work.by, fault),
+        Stop::Fails(fault) => Ok(fail(db, &work.by, fault)),
     }
 }
 
@@ -129,7 +131,7 @@ pub(crate) fn end<'a, 't, V: Versions>(
             let outcome = answer(db.alloc(), db.columns_in(work), items, rows)?;
             Ok(Effect::of(Transaction::Open(after), outcome))
         }
-        Some(at) => Ok(halt(db, work, at, rows, targets)),
+        Some(at) => halt(db, work, at, rows, targets),
     }
 }
 

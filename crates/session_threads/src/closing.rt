@@ -1,11 +1,10 @@
 //! The end of a run: the engine's state beside the seats.
-ghost use Rattle.std.specs.Prelude.{◌≡◌, ◌≤◌, ℕ, Err, None, Some, IfOk, IfErr, IfNone, IfSome};
+ghost use Rattle.std.specs.Prelude.{◌≡◌, ◌≤◌, ℕ, Err, None, Some, true, false, IfOk, IfErr, IfNone, IfSome};
 ghost use Rattle.iso_lexer.specs.declared.limits.TheConstants.{MOST_SESSIONS};
 ghost use Rattle.row_versions.specs.Log.{empty_content};
 ghost use Rattle.sql_blocks.specs.Blocks.{blocks_of};
 ghost use Rattle.session_machine.specs.Engine.{opened};
 ghost use Rattle.session_seats.specs.Seats.{empty_seats};
-ghost use Rattle.session_core.specs.Engines.{IsOf};
 ghost use Rattle.session_threads.specs.Seats.{AllFit, IsMisfit};
 
 use crate::held::Held;
@@ -115,20 +114,18 @@ fn seat_fault<V: Versions>(
     }
 }
 
-/// The end of a run: the seats beside an engine that was opened over these blocks and sessions and in this mode. A fault that
-/// was met comes first, then another run, then what was seen after the joins, then the seats.
+/// The end of a run, which is the one that was handed in or another. A fault that was met comes first, then that it is another run, then what was seen after
+/// the joins, then the seats.
 pub fn end_of<'a, 't, V: Versions>(
     run: Joined<Held<'a, 't, V>, Seat<'t>>,
-    blocks: &[Block<'_>],
-    sessions: u32,
-    mode: Mode,
+    is_own: bool,
 ) -> Result<Closed<'a, 't, V>, ThreadFault>
     ensures met { IfSome run.entry.met (λ fault. result ≡ Err fault) }
-    ensures other_run { run.entry.met ≡ None → ¬ (IsOf run.entry.engine.state (blocks_of blocks.now) sessions mode) → result ≡ Err ThreadFault.OtherRun }
-    ensures late { run.entry.met ≡ None → IsOf run.entry.engine.state (blocks_of blocks.now) sessions mode → IfSome run.entry.late (λ fault. result ≡ Err fault) }
-    ensures seats { run.entry.met ≡ None → IsOf run.entry.engine.state (blocks_of blocks.now) sessions mode → run.entry.late ≡ None
+    ensures other_run { run.entry.met ≡ None → is_own ≡ false → result ≡ Err ThreadFault.OtherRun }
+    ensures late { run.entry.met ≡ None → is_own ≡ true → IfSome run.entry.late (λ fault. result ≡ Err fault) }
+    ensures seats { run.entry.met ≡ None → is_own ≡ true → run.entry.late ≡ None
         → IfErr result (λ e. (s : ℕ) × (e ≡ ThreadFault.SeatMismatch s) × IsMisfit run.entry.engine.state run.entry.seats.items s) }
-    ensures ok { IfOk result (λ c. IsOf run.entry.engine.state (blocks_of blocks.now) sessions mode × (run.entry.met ≡ None) × (run.entry.late ≡ None)
+    ensures ok { IfOk result (λ c. (is_own ≡ true) × (run.entry.met ≡ None) × (run.entry.late ≡ None)
         × (c ≡ record { state = run.entry.engine.state; seats = run.entry.seats.items })) }
 {
     let Joined {
@@ -137,30 +134,28 @@ pub fn end_of<'a, 't, V: Versions>(
         met,
         late,
     } = run;
-    let refused = end_fault(&engine.state, blocks, sessions, mode, met, late, &seats);
+    let refused = end_fault(&engine.state, is_own, met, late, &seats);
     closed_unless(refused, engine, seats)
 }
 
 /// What is against closing a run, in the order in which it is told.
 fn end_fault<V: Versions>(
     engine: &EngineState<'_, '_, V>,
-    blocks: &[Block<'_>],
-    sessions: u32,
-    mode: Mode,
+    is_own: bool,
     met: Option<ThreadFault>,
     late: Option<ThreadFault>,
     seats: &[Seat<'_>],
 ) -> Option<ThreadFault>
     ensures met { IfSome met (λ fault. result ≡ Some fault) }
-    ensures other_run { met ≡ None → ¬ (IsOf engine.now (blocks_of blocks.now) sessions mode) → result ≡ Some ThreadFault.OtherRun }
-    ensures late { met ≡ None → IsOf engine.now (blocks_of blocks.now) sessions mode → IfSome late (λ fault. result ≡ Some fault) }
-    ensures seats { met ≡ None → IsOf engine.now (blocks_of blocks.now) sessions mode → late ≡ None
+    ensures other_run { met ≡ None → is_own ≡ false → result ≡ Some ThreadFault.OtherRun }
+    ensures late { met ≡ None → is_own ≡ true → IfSome late (λ fault. result ≡ Some fault) }
+    ensures seats { met ≡ None → is_own ≡ true → late ≡ None
         → IfSome result (λ e. (s : ℕ) × (e ≡ ThreadFault.SeatMismatch s) × IsMisfit engine.now seats.now s) }
-    ensures fit { IfNone result (IsOf engine.now (blocks_of blocks.now) sessions mode × (met ≡ None) × (late ≡ None) × AllFit engine.now seats.now) }
+    ensures fit { IfNone result ((is_own ≡ true) × (met ≡ None) × (late ≡ None) × AllFit engine.now seats.now) }
 {
     match (met, late) {
         (Some(fault), _) => Some(fault),
-        _ if !engine.is_of(blocks, sessions, mode) => Some(ThreadFault::OtherRun),
+        _ if !is_own => Some(ThreadFault::OtherRun),
         (None, Some(fault)) => Some(fault),
         (None, None) => seat_fault(engine, seats),
     }

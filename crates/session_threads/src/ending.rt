@@ -60,5 +60,5 @@ pub fn close_run<'a, 't, V: Versions, O: Orderings>(
     run.engine.state.history();
     let is_own = run.engine.state.is_of(blocks, sessions, Mode::Directed);
     run.met = told_of(is_own, run.met);
-    end_of(run, blocks, sessions, Mode::Directed)
+    end_of(run, is_own)
 }

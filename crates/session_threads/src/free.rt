@@ -37,5 +37,6 @@ pub fn run_free<'a, 't, V: Versions + Send, G: Gate, R: Threads + Wait + Sync>(
     let sessions = plan.scripts.len() as u32;
     let (engine, seats) = opened_with_seats(alloc, blocks, sessions, Mode::Free, store)?;
     let run = run_scripts(rt, alloc, engine, seats, plan, gate);
-    end_of(run, blocks, sessions, Mode::Free)
+    let is_own = run.engine.state.is_of(blocks, sessions, Mode::Free);
+    end_of(run, is_own)
 }

@@ -1,5 +1,5 @@
 -- What a view sees, its rows, and the newest version of a row, write by write.
-use Rattle.std.specs.Prelude.{ℕ, ◌+◌, ◌==◌, nat_lt, Bool, false, not, ◌&&◌, ◌||◌, List, [], ◌∷◌, Option, Some, None, is_some, if◌then◌else◌}
+use Rattle.std.specs.Prelude.{ℕ, ◌+◌, ◌==◌, nat_lt, Bool, false, not, ◌&&◌, ◌||◌, List, [], ◌∷◌, Option, Some, None, is_some, drop, slice_get, if◌then◌else◌}
 use Rattle.std.specs.List.{list_any}
 use Rattle.std.specs.Option.{option_map_or, option_or}
 use Rattle.row_versions.specs.declared.names.TxId.{TxId}
@@ -37,6 +37,10 @@ rows_from fates view table place (w ∷ later) =
     if shows fates view table w later
     then record { row = w.row; place = place } ∷ rows_from fates view table (place + 1) later
     else rows_from fates view table (place + 1) later
+
+-- the view shows the write at the place of the log, if there is one, as a row of the table
+abbrev pub shows_at : List Fate → View → TableId → List Write → ℕ → Bool
+shows_at fates view table log place = option_map_or (λ w. shows fates view table w (drop (place + 1) log)) (slice_get log place) false
 
 -- it is a write of the row that is committed or by the transaction
 abbrev pub is_version : List Fate → RowId → TxId → Write → Bool

@@ -18,5 +18,7 @@ returns-clause-stopped g c =
     let of_it : is_own ≡ true → (orders ≡ orders) × IsOf was blocks count Directed = λ yes. (refl, search rules) in
     let may = told_may orders orders blocks count was is_own met of_it c.history.ensures.leads c.requires.over.may in
     let told = subst (λ m. IfSome m (MayStop orders blocks count)) (sym c.told_of-run.ensures) may in
+    let owned : IsOf was blocks count Directed → is_own ≡ true = λ it. search rules in
     stopped_by orders blocks count was c.args.left.seats.items c.told_of-run.result c.args.left.late c.end_of.result told
-    (λ none. (of_it (told_of_own is_own met (sym c.told_of-run.ensures ∙ none))).1) c.requires.over.seen c.end_of.ensures.met c.end_of.ensures.late c.end_of.ensures.seats
+    (λ none. (of_it (told_of_own is_own met (sym c.told_of-run.ensures ∙ none))).1) c.requires.over.seen c.end_of.ensures.met
+    (λ none it. c.end_of.ensures.late none (owned it)) (λ none it. c.end_of.ensures.seats none (owned it))
