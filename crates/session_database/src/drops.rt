@@ -37,7 +37,7 @@ fn has_drop<V: Versions>(drops: &[Dropped], store: &V, own: Option<TxId>, table:
 #[derive(Drop)]
 pub struct Drops {
     all: Vec<Dropped>,
-    /// By the place of a table who dropped it last. A table that is gone is mostly known by that, without a look through all.
+    /// Who dropped a table last, by the table's place. Where that DROP counts, the others needn't be looked through.
     last: HashMap<u64, TxId>,
 }
 
@@ -78,6 +78,7 @@ impl Drops {
     pub fn has<V: Versions>(&self, store: &V, own: Option<TxId>, table: usize) -> bool
         ensures { result ≡ is_dropped (V.content store.now) own self.now table }
     {
+        // Most files drop nothing: for them no hash is worked out.
         if self.all.is_empty() {
             return false;
         }

@@ -21,6 +21,7 @@ impl Model for Paused {
 }
 
 impl Paused {
+    /// Puts the statement into a box. Fails only where memory is refused.
     pub fn new(alloc: Global, progress: Progress) -> Result<Paused, AllocError>
         ensures { IfOk result (λ paused. paused ≡ progress) }
     {
@@ -29,12 +30,14 @@ impl Paused {
         })
     }
 
+    /// The statement that waits.
     pub fn progress(&self) -> &Progress
         ensures { result.now ≡ self.now }
     {
         &self.progress
     }
 
+    /// Takes the statement out, to go on with it.
     pub fn into_progress(self) -> Progress
         ensures { result ≡ self }
     {
